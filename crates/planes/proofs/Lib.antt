@@ -1,0 +1,4 @@
+pub mod Charts
+pub mod Drawings
+pub mod FlatBytes
+pub mod Beds

@@ -1,0 +1,12 @@
+-- What a plane answers.
+use Prim.Native.Nat.{ℕ}
+use mathlib.Core.Bool.{Bool, cond}
+use Rattle.std.specs.declared.result.Result.{Result}
+use Rattle.std.specs.declared.result.Result.the-variants.{Ok, Err}
+use Rattle.planes.specs.declared.refusal.Refusal.{Refusal}
+use Rattle.planes.specs.declared.refusal.Refusal.the-variants.{OffPlane}
+use Rattle.planes.specs.Chart.{onPlane}
+
+-- v where word w of course y lies on a plane of h courses, and the refusal elsewhere
+abbrev pub answer : {V : Type 0} → ℕ → ℕ → ℕ → V → Result V Refusal
+answer h w y v = cond (onPlane h w y) (Ok v) (Err OffPlane)
