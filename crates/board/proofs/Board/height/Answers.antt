@@ -1,0 +1,11 @@
+use mathlib.Core.Path.{_≡_, sym, _∙_}
+use Rattle.planes.proofs.Charts.{chart-height}
+use Rattle.registers.specs.State.{plain}
+use Rattle.board.proofs.Board.height.Needs as need
+
+pub returns : need.returns
+returns g c = record {
+  told = c .courses .ensures .told ∙ sym (chart-height _ (g .P·Plane .stitch (c .args .self .now .plane)));
+  same = λ i. record { shown = c .courses .ensures .same i; regs = plain (c .args .self .now .registers) };
+  rest = c .courses .ensures .rest;
+}

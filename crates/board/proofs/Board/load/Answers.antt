@@ -1,0 +1,26 @@
+use Prim.Native.Nat.{ℕ}
+use mathlib.Core.Path.{_≡_, refl, ap, _∙_}
+use Rattle.planes.specs.Chart.{window}
+use Rattle.registers.specs.declared.cursor.Cursor.{Cursor}
+use Rattle.board.specs.State.{State, stateOf}
+use Rattle.board.proofs.Turns.{load-none, load-control, load-word}
+use Rattle.board.proofs.Board.load.Needs as need
+
+pub returns-in-Nothing : need.returns-in-Nothing
+returns-in-Nothing g c =
+    let was : State = stateOf (g .P·Plane .height) (g .P·Plane .stitch) (c .args .self .now) in
+    record { step = load-none (c .args .access) was _ (c .in-Nothing .is) (c .load .ensures); rest = refl }
+
+pub returns-in-Control : need.returns-in-Control
+returns-in-Control g c =
+    let was : State = stateOf (g .P·Plane .height) (g .P·Plane .stitch) (c .args .self .now) in
+    record { step = load-control (c .args .access) was _ (c .in-Control .is) (c .load-in-Control .ensures); rest = refl }
+
+pub returns-in-rest : need.returns-in-rest
+returns-in-rest g c =
+    let was : State = stateOf (g .P·Plane .height) (g .P·Plane .stitch) (c .args .self .now) in
+    let word = c .window-word .ensures .told ∙ ap (λ (p : Cursor). window (was .shown) (p .x .0) (p .y .0)) (c .cursor-at .ensures) in
+    record {
+      step = load-word (c .args .access) was (stateOf (g .P·Plane .height) (g .P·Plane .stitch) (c .window-word .last .self)) _ (c .window-word .result) (c .window-word .ensures .same) word (c .load-in-rest .ensures);
+      rest = c .window-word .ensures .rest;
+    }

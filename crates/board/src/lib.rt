@@ -1,0 +1,122 @@
+// A board: a plane, and the registers that work on it.
+ghost use mathlib.Core.Bool.{Bool, true, false, cond};
+ghost use mathlib.Core.Path.{_≡_};
+ghost use Prim.Native.Nat.{ℕ, _%_};
+ghost use Rattle.planes.specs.Chart.{chartOf};
+ghost use Rattle.registers.specs.State.{plain};
+ghost use Rattle.registers.specs.Accesses.{admitted, answered, interrupted};
+ghost use Rattle.board.specs.State.{stateOf, freshBoard, initiated, retracedBoard, free};
+ghost use Rattle.board.specs.Steps.{poked, peeked, told};
+use planes::Plane;
+use planes::Refusal;
+use registers::Registers;
+use registers::Unit;
+
+mod reach;
+
+#[derive(Drop)]
+pub struct Board<P> {
+    plane: P,
+    registers: Registers,
+}
+
+impl<P: Plane> Board<P> {
+    // A new board on a plane, which it does not change; its unit is the low three bits of the number.
+    pub fn new(plane: P, number: u8) -> Board<P>
+        ensures made { λ r. ⌜ stateOf height stitch r ≡ freshBoard number (chartOf height stitch plane) ⌝ }
+        ensures plane { λ r. ⌜ r .plane ≡ plane ⌝ }
+    {
+        Board {
+            plane,
+            registers: Registers::new(Unit::new(number)),
+        }
+    }
+
+    // The plane again.
+    pub fn into_plane(self) -> P
+        ensures { λ r. ⌜ r ≡ self .plane ⌝ }
+    {
+        let Board {
+            plane,
+            registers: _,
+        } = self;
+        plane
+    }
+
+    // The registers as they stand.
+    pub fn registers(&self) -> Registers
+        ensures { λ r. ⌜ plain r ≡ stateOf height stitch (now (self .entry)) .regs ⌝ }
+    {
+        self.registers
+    }
+
+    // The number of the plane's courses.
+    pub fn height(&mut self) -> u16
+        ensures told { λ r. ⌜ r ≡ stateOf height stitch (now (self .entry)) .shown .height ⌝ }
+        ensures same { λ _. ⌜ stateOf height stitch (now (self .exit)) ≡ stateOf height stitch (now (self .entry)) ⌝ }
+        ensures rest { λ _. ⌜ rest (now (self .exit) .plane) ≡ rest (now (self .entry) .plane) ⌝ }
+    {
+        self.plane.courses()
+    }
+
+    // Whether the board takes accesses: a refusal while a word is under way.
+    pub fn ready(&self) -> Result<(), Refusal>
+        ensures { λ r. ⌜ r ≡ free (stateOf height stitch (now (self .entry))) ⌝ }
+    {
+        if self.registers.ahead.is_some() {
+            return Err(Refusal::WordUnderWay);
+        }
+        Ok(())
+    }
+
+    // A write.
+    pub fn poke(&mut self, address: u32, value: u16) -> Result<(), Refusal>
+        ensures told { λ r. ⌜ r ≡ told tt (admitted address (plain (now (self .entry) .registers))) ⌝ }
+        ensures step { λ _. ⌜ stateOf height stitch (now (self .exit)) ≡ poked address value (stateOf height stitch (now (self .entry))) ⌝ }
+        ensures rest { λ _. ⌜ rest (now (self .exit) .plane) ≡ rest (now (self .entry) .plane) ⌝ }
+    {
+        let access = self.registers.admit(address)?;
+        self.registers.point(access);
+        self.registers.enter(access, value);
+        if access.update {
+            self.update(access.pair);
+        }
+        Ok(())
+    }
+
+    // A read.
+    pub fn peek(&mut self, address: u32) -> Result<u16, Refusal>
+        ensures told { λ r. ⌜ r ≡ told (answered (plain (now (self .entry) .registers))) (admitted address (plain (now (self .entry) .registers))) ⌝ }
+        ensures step { λ _. ⌜ stateOf height stitch (now (self .exit)) ≡ peeked address (stateOf height stitch (now (self .entry))) ⌝ }
+        ensures rest { λ _. ⌜ rest (now (self .exit) .plane) ≡ rest (now (self .entry) .plane) ⌝ }
+    {
+        let access = self.registers.admit(address)?;
+        let answer = self.registers.answer();
+        self.registers.point(access);
+        self.load(access);
+        Ok(answer)
+    }
+
+    // The bus's INIT line.
+    pub fn init(&mut self)
+        ensures step { λ _. ⌜ stateOf height stitch (now (self .exit)) ≡ initiated (stateOf height stitch (now (self .entry))) ⌝ }
+        ensures rest { λ _. ⌜ rest (now (self .exit) .plane) ≡ rest (now (self .entry) .plane) ⌝ }
+    {
+        self.registers.init();
+    }
+
+    // The monitor's vertical retrace.
+    pub fn retrace(&mut self)
+        ensures step { λ _. ⌜ stateOf height stitch (now (self .exit)) ≡ retracedBoard (stateOf height stitch (now (self .entry))) ⌝ }
+        ensures rest { λ _. ⌜ rest (now (self .exit) .plane) ≡ rest (now (self .entry) .plane) ⌝ }
+    {
+        self.registers.retrace();
+    }
+
+    // The level of the interrupt that the board raises, if it raises one.
+    pub fn interrupt(&self) -> Option<u8>
+        ensures { λ r. ⌜ r ≡ interrupted (stateOf height stitch (now (self .entry)) .regs) ⌝ }
+    {
+        self.registers.interrupt()
+    }
+}
