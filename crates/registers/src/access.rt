@@ -5,9 +5,9 @@ ghost use Prim.Native.Nat.{ℕ, _<_};
 ghost use Rattle.registers.specs.Codes.{pairNumber};
 ghost use Rattle.registers.specs.Accesses.{accessOf, addressOf, axisNumber, choiceNumber, Asks};
 use crate::cursor::Axis;
-use crate::unit::Unit;
 use crate::cursor::AxisDebug;
 use crate::cursor::AxisPartialEq;
+use crate::unit::Unit;
 
 // One of the four cursor pairs.
 #[derive(Clone, Copy, PartialEq, Eq, Debug)]
@@ -98,7 +98,11 @@ impl Access {
         };
         Access {
             place: (address / 2 % 1024) as u16,
-            axis: if address / 2048 % 2 == 1 { Axis::Down } else { Axis::Across },
+            axis: if address / 2048 % 2 == 1 {
+                Axis::Down
+            } else {
+                Axis::Across
+            },
             pair,
             choice,
             update: address / 65536 % 2 == 1,

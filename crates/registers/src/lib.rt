@@ -80,7 +80,8 @@ impl Registers {
     pub fn point(&mut self, access: Access)
         ensures { λ _. ⌜ plain (now (self .exit)) ≡ pointed access (plain (now (self .entry))) ⌝ }
     {
-        self.cursors[access.pair.number()].set(access.axis, access.place);
+        self.cursors[access.pair.number()]
+            .set(access.axis, access.place);
     }
 
     // The place that a pair holds.
