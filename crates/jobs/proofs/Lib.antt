@@ -1,0 +1,4 @@
+pub mod Clips
+pub mod Walk
+pub mod Draws
+pub mod Ran

@@ -1,0 +1,33 @@
+// Where a job went wrong.
+ghost use mathlib.Core.Path.{_≡_};
+ghost use Rattle.jobs.specs.Faults.{blamed};
+use planes::Refusal;
+
+// A field's place in the job: its tag's byte, and how many fields stand before it.
+#[derive(Clone, Copy)]
+pub struct Spot {
+    pub place: usize,
+    pub before: usize,
+}
+
+// Why a job is refused, and at which field.
+#[derive(Clone, Copy)]
+pub struct Fault {
+    pub refusal: Refusal,
+    pub spot: Spot,
+}
+
+impl Spot {
+    // A refusal of the field at this spot.
+    pub(crate) fn blame<T>(self, result: Result<T, Refusal>) -> Result<T, Fault>
+        ensures { λ r. ⌜ r ≡ blamed self result ⌝ }
+    {
+        match result {
+            Ok(value) => Ok(value),
+            Err(refusal) => Err(Fault {
+                refusal,
+                spot: self,
+            }),
+        }
+    }
+}
