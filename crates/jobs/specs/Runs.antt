@@ -55,10 +55,11 @@ abbrev pub carriedFrom : Pen → List ℕ → Chart → Chart
 carriedFrom p bytes c = carriedAll p (parsed 0 bytes .fields) c
 
 -- the number of fields carried out, or the fault
+abbrev pub jobAnswer : (height : ℕ) → Pen → List ℕ → Result ℕ Fault
+jobAnswer height p job = cond (ltb 65535 (length job)) (Err (fault JobTooLong start)) (judgedFrom height p start job)
+
 abbrev pub runAnswer : State → Pen → List ℕ → Result ℕ Fault
-runAnswer s p job =
-    cond (busy s) (Err (fault WordUnderWay start))
-    (cond (ltb 65535 (length job)) (Err (fault JobTooLong start)) (judgedFrom (s .shown .height) p start job))
+runAnswer s p job = cond (busy s) (Err (fault WordUnderWay start)) (jobAnswer (s .shown .height) p job)
 
 -- a refused job draws nothing
 abbrev pub ranTo : Result ℕ Fault → Pen → List ℕ → Chart → Chart
