@@ -1,7 +1,7 @@
 // A board: a plane, and the registers that work on it.
 ghost use mathlib.Core.Bool.{Bool, true, false, cond};
 ghost use mathlib.Core.Path.{_≡_};
-ghost use Prim.Native.Nat.{ℕ, _%_, _≤_};
+ghost use Prim.Native.Nat.{ℕ, _%_};
 ghost use Rattle.planes.specs.Chart.{chartOf};
 ghost use Rattle.registers.specs.State.{plain};
 ghost use Rattle.registers.specs.Accesses.{admitted, answered, interrupted};
@@ -13,6 +13,7 @@ use registers::Registers;
 use registers::Unit;
 
 mod reach;
+mod telling;
 
 #[derive(Drop)]
 pub struct Board<P> {
@@ -41,23 +42,6 @@ impl<P: Plane> Board<P> {
             registers: _,
         } = self;
         plane
-    }
-
-    // The registers as they stand.
-    pub fn registers(&self) -> Registers
-        ensures { λ r. ⌜ plain r ≡ stateOf height stitch (now (self .entry)) .regs ⌝ }
-    {
-        self.registers
-    }
-
-    // The number of the plane's courses.
-    pub fn height(&mut self) -> u16
-        ensures told { λ r. ⌜ r ≡ stateOf height stitch (now (self .entry)) .shown .height ⌝ }
-        ensures low { λ r. ⌜ r ≤ 1024 ⌝ }
-        ensures same { λ _. ⌜ stateOf height stitch (now (self .exit)) ≡ stateOf height stitch (now (self .entry)) ⌝ }
-        ensures rest { λ _. ⌜ rest (now (self .exit) .plane) ≡ rest (now (self .entry) .plane) ⌝ }
-    {
-        self.plane.courses()
     }
 
     // Whether the board takes accesses: a refusal while a word is under way.

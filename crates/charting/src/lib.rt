@@ -61,7 +61,11 @@ fn mark(word: u16, i: u16) -> char
     ensures told { λ r. ⌜ r ≡ markOf (bit word (15 - i)) ⌝ }
     ensures ascii { λ r. ⌜ r < 128 ⌝ }
 {
-    if (word >> (15 - i)) & 1 == 1 { '#' } else { '.' }
+    if (word >> (15 - i)) & 1 == 1 {
+        '#'
+    } else {
+        '.'
+    }
 }
 
 // Adds a line for the sixteen stitches of a word.

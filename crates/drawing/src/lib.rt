@@ -31,7 +31,12 @@ pub struct Brush {
 }
 
 // A write by what it asks for.
-fn ask<P: Plane>(board: &mut Board<P>, unit: Unit, access: Access, value: u16) -> Result<(), Refusal>
+fn ask<P: Plane>(
+    board: &mut Board<P>,
+    unit: Unit,
+    access: Access,
+    value: u16,
+) -> Result<(), Refusal>
     requires near { ⌜ access .place < 1024 ⌝ }
     requires ready { ⌜ Ready (unit .number) (stateOf height stitch (now board)) ⌝ }
     ensures done { λ r. ⌜ r ≡ Ok tt ⌝ }
@@ -63,7 +68,12 @@ fn ink<P: Plane>(board: &mut Board<P>, unit: Unit, brush: Brush) -> Result<(), R
     ensures ready { λ _. ⌜ Ready (unit .number) (stateOf height stitch (now (board .exit))) ⌝ }
     ensures rest { λ _. ⌜ rest (now (board .exit) .plane) ≡ rest (now (board .entry) .plane) ⌝ }
 {
-    ask(board, unit, control(0, Choice::Control), u16::from(brush.code))?;
+    ask(
+        board,
+        unit,
+        control(0, Choice::Control),
+        u16::from(brush.code),
+    )?;
     ask(board, unit, control(0, Choice::Mask), brush.mask)
 }
 

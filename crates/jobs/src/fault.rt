@@ -2,16 +2,18 @@
 ghost use mathlib.Core.Path.{_≡_};
 ghost use Rattle.jobs.specs.Faults.{blamed};
 use planes::Refusal;
+use planes::refusal::RefusalDebug;
+use planes::refusal::RefusalPartialEq;
 
 // A field's place in the job: its tag's byte, and how many fields stand before it.
-#[derive(Clone, Copy)]
+#[derive(Clone, Copy, PartialEq, Eq, Debug)]
 pub struct Spot {
     pub place: usize,
     pub before: usize,
 }
 
 // Why a job is refused, and at which field.
-#[derive(Clone, Copy)]
+#[derive(Clone, Copy, PartialEq, Eq, Debug)]
 pub struct Fault {
     pub refusal: Refusal,
     pub spot: Spot,

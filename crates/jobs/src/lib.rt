@@ -11,9 +11,9 @@ ghost use Rattle.jobs.specs.Runs.{judgedFrom, carriedFrom, runAnswer, runChart
 use board::Board;
 pub use fault::Fault;
 pub use fault::Spot;
+use pen::Held;
 pub use pen::Origin;
 pub use pen::Pen;
-use pen::Held;
 use planes::Plane;
 use planes::Refusal;
 
@@ -27,7 +27,10 @@ fn check(job: &[u8], pen: &mut Pen, height: u16) -> Result<usize, Fault>
     ensures { λ r. ⌜ r ≡ judgedFrom height (now (pen .entry)) start (now (job .entry)) ⌝ }
 {
     let mut rest = job;
-    let mut spot = Spot { place: 0, before: 0 };
+    let mut spot = Spot {
+        place: 0,
+        before: 0,
+    };
     while !rest.is_empty() {
         let (task, size) = spot.blame(task::examine(rest, *pen, height))?;
         pen.set(task);
@@ -50,7 +53,10 @@ fn carry_out<P: Plane>(board: &mut Board<P>, job: &[u8], pen: &mut Pen) -> Resul
     ensures rest { λ _. ⌜ rest (now (board .exit) .plane) ≡ rest (now (board .entry) .plane) ⌝ }
 {
     let mut rest = job;
-    let mut spot = Spot { place: 0, before: 0 };
+    let mut spot = Spot {
+        place: 0,
+        before: 0,
+    };
     while !rest.is_empty() {
         let (task, size) = spot.blame(task::perform(board, rest, *pen))?;
         pen.set(task);
@@ -74,7 +80,10 @@ pub fn run<P: Plane>(board: &mut Board<P>, job: &[u8], pen: &mut Pen) -> Result<
 {
     let saved = *pen;
     let guard = Held { pen, saved };
-    let spot = Spot { place: 0, before: 0 };
+    let spot = Spot {
+        place: 0,
+        before: 0,
+    };
     spot.blame(board.ready())?;
     if job.len() > 65535 {
         return spot.blame(Err(Refusal::JobTooLong));

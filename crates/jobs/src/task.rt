@@ -118,7 +118,11 @@ pub(crate) fn examine(bytes: &[u8], pen: Pen, height: u16) -> Result<(Task, usiz
 }
 
 // The first field, carried out.
-pub(crate) fn perform<P: Plane>(board: &mut Board<P>, bytes: &[u8], pen: Pen) -> Result<(Task, usize), Refusal>
+pub(crate) fn perform<P: Plane>(
+    board: &mut Board<P>,
+    bytes: &[u8],
+    pen: Pen,
+) -> Result<(Task, usize), Refusal>
     requires idle { ⌜ busy (stateOf height stitch (now board)) ≡ false ⌝ }
     ensures told { λ r. ⌜ r ≡ examined (stateOf height stitch (now (board .entry)) .shown .height) pen (now (bytes .entry)) ⌝ }
     ensures shown { λ r. ⌜ stateOf height stitch (now (board .exit)) .shown ≡ performed r pen (stateOf height stitch (now (board .entry)) .shown) ⌝ }

@@ -32,14 +32,14 @@ loop-step-again g c =
       e .rest ∙ inv .1,
       calls-more s steps i d k lt same (inv .2),
       λ all.
-      let so-far = inv .3 all in
-      let clear = clear-now s steps i d k lt same (so-far .0) in
-      let done = e .next clear in
-      let said = e .answer clear in (
-        clear-more s steps i d k lt same (so-far .0),
-        final-more s steps i d k lt same t done (so-far .1),
-        answers-more s steps i d k lt same t done said (so-far .2),
-      ),
+          let so-far = inv .3 all in
+          let clear = clear-now s steps i d k lt same (so-far .0) in
+          let done = e .next clear in
+          let said = e .answer clear in (
+            clear-more s steps i d k lt same (so-far .0),
+            final-more s steps i d k lt same t done (so-far .1),
+            answers-more s steps i d k lt same t done said (so-far .2),
+          ),
     )
 
 pub returns : need.returns

@@ -18,4 +18,3 @@ returns-in-Break-on c =
     rw (p .1, p .2)
     (ap done (c .in-Break-on .ensures tt ∙ (λ i. ruled (low i) (c .place .ensures i)) ∙ clip (c .args .height) (c .args .pen .origin) (area (c .in-Fill .frame)) (c .pre .low))
     ∙ ap (taskRuling (c .args .height) (c .args .pen)) (sym (c .in-Fill .is)))
-
