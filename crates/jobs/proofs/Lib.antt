@@ -2,3 +2,4 @@ pub mod Clips
 pub mod Walk
 pub mod Draws
 pub mod Ran
+pub mod Reading

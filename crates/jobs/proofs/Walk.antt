@@ -19,13 +19,13 @@ use Rattle.jobs.specs.declared.fault.Fault.{Fault}
 use Rattle.jobs.specs.declared.fault.Spot.{Spot}
 use Rattle.jobs.specs.declared.pen.Pen.{Pen}
 use Rattle.jobs.specs.declared.task.Task.{Task}
-use Rattle.jobs.specs.Format.{Field, Parsed, numberAt, parsed, headed, stumped}
+use Rattle.jobs.specs.Format.{Field, Parsed, payloadSize, cutOff, parsed, headed, stumped}
 use Rattle.jobs.specs.Faults.{past, fault, blamed}
-use Rattle.jobs.specs.Tasks.{decoded, penAfter, taskRuling, carried, payloadSize, cutOff, with-size, firstOf, unless, allowed, examined}
+use Rattle.jobs.specs.Tasks.{decoded, penAfter, taskRuling, carried, with-size, firstOf, unless, allowed, examined}
 use Rattle.jobs.specs.Runs.{ruledTask, verdict, next, judged, judgedFrom, carryNext, carriedAll, carriedFrom}
 
 -- to read past k bytes is to read what follows them
-skip : (k : ℕ) (bs : List ℕ) → k ≤ length bs → parsed k bs ≡ parsed 0 (drop k bs)
+pub skip : (k : ℕ) (bs : List ℕ) → k ≤ length bs → parsed k bs ≡ parsed 0 (drop k bs)
 skip zero bs h = refl
 skip (suc k) [] h = absurd (let n : ⊥ = omega arith in n)
 skip (suc k) (b ∷ bs) h = skip k bs (omega arith)
@@ -52,7 +52,7 @@ parsed-whole (t ∷ a ∷ b ∷ rest) e =
     three-more : (n : ℕ) → 3 + n ≡ suc (suc (suc n))
     three-more n = omega arith
 
-parsed-cut : (bs : List ℕ) → cutOff bs ≡ true → parsed 0 bs ≡ stumped bs
+pub parsed-cut : (bs : List ℕ) → cutOff bs ≡ true → parsed 0 bs ≡ stumped bs
 parsed-cut [] e = refl
 parsed-cut (t ∷ []) e = refl
 parsed-cut (t ∷ a ∷ []) e = refl

@@ -1,8 +1,8 @@
 -- What a field asks for, whether it may, and what it does.
 use Prim.Native.Nat.{ℕ, _+_, _*_, min}
-use mathlib.Core.Bool.{Bool, cond, _||_}
+use mathlib.Core.Bool.{cond}
 use mathlib.Core.List.{List}
-use lib.Dec.{eqb, ltb}
+use lib.Dec.{eqb}
 use lib.ListN.{length, getD, take, drop}
 use Rattle.std.specs.declared.result.Result.{Result}
 use Rattle.std.specs.declared.result.Result.the-variants.{Ok, Err}
@@ -16,7 +16,7 @@ use Rattle.jobs.specs.declared.pen.Origin.{Origin}
 use Rattle.jobs.specs.declared.pen.Pen.{Pen}
 use Rattle.jobs.specs.declared.task.Task.{Task}
 use Rattle.jobs.specs.declared.task.Task.the-variants.{Code, Mask, Origin as ToOrigin, Fill}
-use Rattle.jobs.specs.Format.{Field, numberAt}
+use Rattle.jobs.specs.Format.{numberAt, payloadSize, cutOff}
 
 -- ---- by tag and payload
 abbrev pub sized : ℕ → List ℕ → Task → Result Task Refusal
@@ -65,12 +65,6 @@ drawnBy (Ok v) p k c = carried p k c
 drawnBy (Err e) p k c = c
 
 -- ---- the first field of a job
-abbrev pub payloadSize : List ℕ → ℕ
-payloadSize bytes = numberAt bytes 1
-
-abbrev pub cutOff : List ℕ → Bool
-cutOff bytes = ltb (length bytes) 3 || ltb (length bytes) (3 + payloadSize bytes)
-
 abbrev pub with-size : ℕ → Result Task Refusal → Result (Task × ℕ) Refusal
 with-size n (Ok k) = Ok (k, n)
 with-size n (Err e) = Err e

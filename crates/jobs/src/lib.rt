@@ -7,6 +7,7 @@ ghost use Rattle.std.specs.Results.{isOk};
 ghost use Rattle.board.specs.State.{stateOf, busy};
 ghost use Rattle.drawing.specs.Spending.{Spent, Left};
 ghost use Rattle.jobs.specs.Faults.{start};
+ghost use Rattle.jobs.specs.Format.{Apart};
 ghost use Rattle.jobs.specs.Runs.{judgedFrom, carriedFrom, runAnswer, runChart};
 use board::Board;
 pub use fault::Fault;
@@ -76,6 +77,7 @@ pub fn run<P: Plane>(board: &mut Board<P>, job: &[u8], pen: &mut Pen) -> Result<
     ensures shown { λ _. ⌜ stateOf height stitch (now (board .exit)) .shown ≡ runChart (stateOf height stitch (now (board .entry))) (now (pen .entry)) (now (job .entry)) ⌝ }
     ensures left { λ r. ⌜ Left r (stateOf height stitch (now (board .entry)) .regs) (stateOf height stitch (now (board .exit)) .regs) ⌝ }
     ensures pen { λ _. ⌜ now (pen .exit) ≡ now (pen .entry) ⌝ }
+    ensures format { λ _. ⌜ Apart (now (job .entry)) ⌝ }
     ensures rest { λ _. ⌜ rest (now (board .exit) .plane) ≡ rest (now (board .entry) .plane) ⌝ }
 {
     let saved = *pen;

@@ -3,6 +3,7 @@ use mathlib.Core.Bool.{Bool, true, false}
 use mathlib.Core.List.{List}
 use mathlib.Core.Path.{_≡_, refl, sym, ap, subst, _∙_}
 use native.Mathlib.Omega.{arith}
+use borrow.Author.Needs.{needs}
 use lib.ListN.{length}
 use Rattle.std.proofs.shelf.Results.{err-from-errBy}
 use Rattle.std.specs.Results.{isOk}
@@ -17,7 +18,14 @@ use Rattle.jobs.specs.declared.pen.Pen.{Pen}
 use Rattle.jobs.specs.Faults.{start}
 use Rattle.jobs.specs.Runs.{judgedFrom, carriedFrom, runAnswer, ranTo}
 use Rattle.jobs.proofs.Ran.{ready-idle, answer-is, ran-ok, left-ok}
+use Rattle.jobs.proofs.Reading.{apart}
 use Rattle.jobs.proofs.run.Needs as need
+
+pub returns-in-Break-blame : need.returns-in-Break-blame
+returns-in-Break-blame g c = let format = apart (c .args .job .now) (λ i. c .typed .job i .fits) in search needs
+
+pub returns-then-job-gt65535 : need.returns-then-job-gt65535
+returns-then-job-gt65535 g c = let format = apart (c .args .job .now) (λ i. c .typed .job i .fits) in search needs
 
 pub returns-in-Break-check : need.returns-in-Break-check
 returns-in-Break-check g c =
@@ -36,6 +44,7 @@ returns-in-Break-check g c =
       shown = ap (λ (s : State). s .shown) same ∙ ap (λ (r : Result ℕ Fault). ranTo r pen job (was .shown)) answer;
       left = subst (λ (r : Result ℕ Fault). Left r (was .regs) (stateOf (g .P·Plane .height) (g .P·Plane .stitch) (c .height-height .last .self) .regs)) (sym res) (ap (λ (s : State). s .regs) same);
       pen = c .drop-guard-in-Break-check .ensures;
+      format = apart (c .args .job .now) (λ i. c .typed .job i .fits);
       rest = c .height-height .ensures .rest;
     }
 
@@ -60,5 +69,6 @@ returns g c =
       shown = c .carry-out .ensures .shown ∙ ap (λ (s : State). carriedFrom pen job (s .shown)) same ∙ sym (ran-ok (runAnswer was pen job) pen job (was .shown) ok);
       left = left-ok (c .carry-out .result) (was .regs) (end .regs) (ap (isOk {E = Fault}) answer ∙ ok) spent;
       pen = c .drop-guard-2 .ensures;
+      format = apart (c .args .job .now) (λ i. c .typed .job i .fits);
       rest = c .carry-out .ensures .rest ∙ c .height-height .ensures .rest;
     }
