@@ -8,7 +8,6 @@ use Rattle.std.specs.declared.result.Result.the-variants.{Ok, Err}
 use Rattle.planes.specs.declared.refusal.Refusal.{Refusal}
 use Rattle.registers.specs.declared.access.Access.{Access}
 use Rattle.registers.specs.declared.access.Choice.{Choice}
-use Rattle.registers.specs.declared.access.Choice.the-variants.{Nothing, Control}
 use Rattle.registers.specs.Codes.{pairNumber}
 use Rattle.registers.specs.State.{Regs}
 use Rattle.registers.specs.Accesses.{admitted, entered, pointed, load, loaded}
@@ -30,25 +29,17 @@ module _ (a n : ℕ) (k : Access) (s : State) (r : Regs) (is : r ≡ entered k n
       ∙ ap (λ (q : Result Access Refusal). after (poking n) q s) ok
 
 -- ---- a read
--- a control word, and none, load no stitches
-word-unused : (k : Choice) (v x w w′ : ℕ) (r : Regs) → k ≡ Nothing → load k v x w r ≡ load k v x w′ r
-word-unused k v x w w′ r e = ap (λ (q : Choice). load q v x w r) e ∙ sym (ap (λ (q : Choice). load q v x w′ r) e)
-
-word-unused-control : (k : Choice) (v x w w′ : ℕ) (r : Regs) → k ≡ Control → load k v x w r ≡ load k v x w′ r
-word-unused-control k v x w w′ r e = ap (λ (q : Choice). load q v x w r) e ∙ sym (ap (λ (q : Choice). load q v x w′ r) e)
-
 module _ (k : Access) (s : State) where
-  pub load-none : (r : Regs) → k .choice ≡ Nothing → r ≡ loaded k 0 (s .regs) → _≡_ {A = State} (record { shown = s .shown; regs = r }) (loading k s)
+  -- a choice that loads no stitches
+  pub load-none : (e : Choice) (r : Regs) → k .choice ≡ e →
+      ((w w′ : ℕ) → load e (k .place) (s .regs .cursors (pairNumber (k .pair)) .x .0) w (s .regs) ≡ load e (k .place) (s .regs .cursors (pairNumber (k .pair)) .x .0) w′ (s .regs)) →
+      r ≡ loaded k 0 (s .regs) → _≡_ {A = State} (record { shown = s .shown; regs = r }) (loading k s)
   unfolding loading
-  load-none r e done =
-      let q = done ∙ word-unused (k .choice) (k .place) (s .regs .cursors (pairNumber (k .pair)) .x .0) 0 (stitchesAt (pairNumber (k .pair)) (s .regs) (s .shown)) (s .regs) e in
-      λ i. record { shown = s .shown; regs = q i }
-
-  pub load-control : (r : Regs) → k .choice ≡ Control → r ≡ loaded k 0 (s .regs) → _≡_ {A = State} (record { shown = s .shown; regs = r }) (loading k s)
-  unfolding loading
-  load-control r e done =
-      let q = done ∙ word-unused-control (k .choice) (k .place) (s .regs .cursors (pairNumber (k .pair)) .x .0) 0 (stitchesAt (pairNumber (k .pair)) (s .regs) (s .shown)) (s .regs) e in
-      λ i. record { shown = s .shown; regs = q i }
+  load-none e r is unread done =
+      let w : ℕ = stitchesAt (pairNumber (k .pair)) (s .regs) (s .shown) in
+      let at : Choice → ℕ → Regs = λ q n. load q (k .place) (s .regs .cursors (pairNumber (k .pair)) .x .0) n (s .regs) in
+      let all = done ∙ ap (λ (q : Choice). at q 0) is ∙ unread 0 w ∙ sym (ap (λ (q : Choice). at q w) is) in
+      λ i. record { shown = s .shown; regs = all i }
 
   pub load-word : (t : State) (r : Regs) (w : ℕ) → t ≡ s → w ≡ stitchesAt (pairNumber (k .pair)) (s .regs) (s .shown) → r ≡ loaded k w (t .regs) →
       _≡_ {A = State} (record { shown = t .shown; regs = r }) (loading k s)

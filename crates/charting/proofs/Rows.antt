@@ -15,7 +15,8 @@ use Rattle.words.proofs.Bits.{bit-none}
 use Rattle.planes.specs.Chart.{Chart, chart, window}
 use Rattle.planes.specs.BedLayout.{bedHeight, bedOn}
 use Rattle.planes.proofs.Charts.{window-bit, chart-path}
-use Rattle.charting.specs.Picture.{markOf, needles, picture, marks, rowOf}
+use Rattle.charting.specs.Picture.{markOf, needles, picture}
+use Rattle.charting.specs.Rows.{marks, rowOf}
 
 -- one mark more
 pub marks-more : (n w m : ℕ) (was now text : List ℕ) → was ≡ text ++ marks n w → m ≡ markOf (bit w (15 - n)) → now ≡ was ++ (m ∷ []) → now ≡ text ++ marks (n + 1) w

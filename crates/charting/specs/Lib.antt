@@ -1,1 +1,2 @@
 pub mod Picture
+pub mod Rows

@@ -1,12 +1,11 @@
 -- What the program `chart` prints.
-use Prim.Native.Nat.{ℕ, zero, suc, _-_}
+use Prim.Native.Nat.{ℕ, zero, suc}
 use mathlib.Core.Bool.{Bool, false, cond}
 use mathlib.Core.List.{List, [], _∷_, _++_}
 use lib.Chars.{codes}
 use Rattle.std.specs.Written.{decimal}
 use Rattle.std.specs.declared.result.Result.{Result}
 use Rattle.std.specs.declared.result.Result.the-variants.{Ok, Err}
-use Rattle.words.specs.Bit.{bit}
 use Rattle.planes.specs.Refusals.{number}
 use Rattle.planes.specs.Chart.{Chart, chart}
 use Rattle.jobs.specs.declared.fault.Fault.{Fault}
@@ -31,14 +30,6 @@ needles (suc n) c y = needles n c y ++ (markOf (c .on n y) ∷ [])
 abbrev pub picture : (n : ℕ) → Chart → List ℕ
 picture zero c = []
 picture (suc n) c = picture n c ++ (needles 16 c n ++ (10 ∷ []))
-
--- the same from a word of sixteen stitches
-abbrev pub marks : (n word : ℕ) → List ℕ
-marks zero w = []
-marks (suc n) w = marks n w ++ (markOf (bit w (15 - n)) ∷ [])
-
-abbrev pub rowOf : ℕ → List ℕ
-rowOf w = marks 16 w ++ (10 ∷ [])
 
 -- ---- a job on a plane
 abbrev pub startPen : Pen

@@ -1,4 +1,4 @@
--- The steps of a fill: registers that are set, and strips that are drawn.
+-- The steps of a fill: registers that are set, and strips that are drawn. Only private functions cite these.
 use Prim.Native.Nat.{ℕ, _+_, _-_, _*_, min}
 use mathlib.Core.Bool.{Bool, false}
 use mathlib.Core.Path.{_≡_}

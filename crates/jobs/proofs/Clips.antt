@@ -13,7 +13,8 @@ use Rattle.planes.specs.declared.refusal.Refusal.{Refusal}
 use Rattle.planes.specs.declared.refusal.Refusal.the-variants.{OffChart}
 use Rattle.drawing.specs.Figures.{Area, offChart, ruled}
 use Rattle.jobs.specs.declared.pen.Origin.{Origin}
-use Rattle.jobs.specs.Tasks.{shifted, clipped}
+use Rattle.jobs.specs.Tasks.{shifted}
+use Rattle.jobs.specs.Walking.{clipped}
 
 or-true : (b : Bool) → (b || true) ≡ true
 or-true true = refl

@@ -16,7 +16,8 @@ use Rattle.drawing.specs.Fills.{filled}
 use Rattle.jobs.specs.declared.pen.Pen.{Pen}
 use Rattle.jobs.specs.declared.task.Task.{Task}
 use Rattle.jobs.specs.declared.task.Task.the-variants.{Code, Mask, Origin, Fill}
-use Rattle.jobs.specs.Tasks.{shifted, carried, drawnBy}
+use Rattle.jobs.specs.Tasks.{shifted, carried}
+use Rattle.jobs.specs.Walking.{drawnBy}
 
 -- an accepted fill draws the rectangle that was asked for
 pub fill-drawn : (h : ℕ) (p : Pen) (f : Frame) (c : Chart) →

@@ -21,7 +21,8 @@ use Rattle.jobs.specs.declared.pen.Pen.{Pen}
 use Rattle.jobs.specs.declared.task.Task.{Task}
 use Rattle.jobs.specs.Format.{Field, Parsed, payloadSize, cutOff, parsed, headed, stumped}
 use Rattle.jobs.specs.Faults.{past, fault, blamed}
-use Rattle.jobs.specs.Tasks.{decoded, penAfter, taskRuling, carried, with-size, firstOf, unless, allowed, examined}
+use Rattle.jobs.specs.Tasks.{decoded, penAfter, taskRuling, carried, unless}
+use Rattle.jobs.specs.Walking.{with-size, firstOf, allowed, examined}
 use Rattle.jobs.specs.Runs.{ruledTask, verdict, next, judged, judgedFrom, carryNext, carriedAll, carriedFrom}
 
 -- to read past k bytes is to read what follows them

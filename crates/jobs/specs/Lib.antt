@@ -2,3 +2,4 @@ pub mod Format
 pub mod Faults
 pub mod Tasks
 pub mod Runs
+pub mod Walking

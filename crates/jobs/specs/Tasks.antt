@@ -1,13 +1,13 @@
 -- What a field asks for, whether it may, and what it does.
-use Prim.Native.Nat.{ℕ, _+_, _*_, min}
+use Prim.Native.Nat.{ℕ, _+_}
 use mathlib.Core.Bool.{cond}
 use mathlib.Core.List.{List}
 use lib.Dec.{eqb}
-use lib.ListN.{length, getD, take, drop}
+use lib.ListN.{length, getD}
 use Rattle.std.specs.declared.result.Result.{Result}
 use Rattle.std.specs.declared.result.Result.the-variants.{Ok, Err}
 use Rattle.planes.specs.declared.refusal.Refusal.{Refusal}
-use Rattle.planes.specs.declared.refusal.Refusal.the-variants.{Truncated, UnknownTag, WrongLength}
+use Rattle.planes.specs.declared.refusal.Refusal.the-variants.{UnknownTag, WrongLength}
 use Rattle.planes.specs.Chart.{Chart}
 use Rattle.drawing.specs.Figures.{Area, ruled, done}
 use Rattle.drawing.specs.Given.{area}
@@ -16,7 +16,7 @@ use Rattle.jobs.specs.declared.pen.Origin.{Origin}
 use Rattle.jobs.specs.declared.pen.Pen.{Pen}
 use Rattle.jobs.specs.declared.task.Task.{Task}
 use Rattle.jobs.specs.declared.task.Task.the-variants.{Code, Mask, Origin as ToOrigin, Fill}
-use Rattle.jobs.specs.Format.{numberAt, payloadSize, cutOff}
+use Rattle.jobs.specs.Format.{numberAt}
 
 -- ---- by tag and payload
 abbrev pub sized : ℕ → List ℕ → Task → Result Task Refusal
@@ -42,10 +42,6 @@ penAfter (Fill f) p = p
 abbrev pub shifted : Origin → Area → Area
 shifted o a = record { x = a .x + o .x .0; y = a .y + o .y .0; w = a .w; h = a .h }
 
--- as sixteen bits have it: a sum that does not fit is the largest number
-abbrev pub clipped : Origin → Area → Area
-clipped o a = record { x = min 65535 (a .x + o .x .0); y = min 65535 (a .y + o .y .0); w = a .w; h = a .h }
-
 -- ---- what it draws
 abbrev pub taskRuling : (height : ℕ) → Pen → Task → Result (Unit {0}) Refusal
 taskRuling height p (Code n) = Ok tt
@@ -59,31 +55,7 @@ carried p (Mask n) c = c
 carried p (ToOrigin o) c = c
 carried p (Fill f) c = filled (Ok (shifted (p .origin) (area f))) (p .brush .code) (p .brush .mask) c
 
--- a refused task draws nothing
-abbrev pub drawnBy : Result (Unit {0}) Refusal → Pen → Task → Chart → Chart
-drawnBy (Ok v) p k c = carried p k c
-drawnBy (Err e) p k c = c
-
--- ---- the first field of a job
-abbrev pub with-size : ℕ → Result Task Refusal → Result (Task × ℕ) Refusal
-with-size n (Ok k) = Ok (k, n)
-with-size n (Err e) = Err e
-
--- its task and its size
-abbrev pub firstOf : List ℕ → Result (Task × ℕ) Refusal
-firstOf bytes = cond (cutOff bytes) (Err Truncated) (with-size (3 + payloadSize bytes) (decoded (getD bytes 0 0) (take (payloadSize bytes) (drop 3 bytes))))
-
+-- a value, unless there is a refusal
 abbrev pub unless : {V : Type 0} → Result (Unit {0}) Refusal → V → Result V Refusal
 unless (Ok u) v = Ok v
 unless (Err e) v = Err e
-
-abbrev pub allowed : (height : ℕ) → Pen → Result (Task × ℕ) Refusal → Result (Task × ℕ) Refusal
-allowed height p (Ok q) = unless (taskRuling height p (q .0)) q
-allowed height p (Err e) = Err e
-
-abbrev pub examined : (height : ℕ) → Pen → List ℕ → Result (Task × ℕ) Refusal
-examined height p bytes = allowed height p (firstOf bytes)
-
-abbrev pub performed : Result (Task × ℕ) Refusal → Pen → Chart → Chart
-performed (Ok q) p c = carried p (q .0) c
-performed (Err e) p c = c

@@ -2,7 +2,8 @@
 ghost use mathlib.Core.Path.{_≡_};
 ghost use Prim.Native.Nat.{_+_, min};
 ghost use Rattle.drawing.specs.Given.{area};
-ghost use Rattle.jobs.specs.Tasks.{penAfter, clipped};
+ghost use Rattle.jobs.specs.Tasks.{penAfter};
+ghost use Rattle.jobs.specs.Walking.{clipped};
 use crate::task::Task;
 use drawing::Brush;
 use drawing::Frame;

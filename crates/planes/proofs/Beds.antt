@@ -4,15 +4,13 @@ use Prim.Native.Nat.{ℕ, _+_, _-_, _*_, _/_, _%_, _^_, _<_, _≤_, min}
 use mathlib.Core.Path.{_≡_, refl, sym, _∙_, ap, ap₂}
 use mathlib.Core.Bool.{Bool, true, false, cond}
 use mathlib.Core.List.{List, [], _∷_}
-use mathlib.Core.Logic.{inl, inr}
 use native.Mathlib.Omega.{arith}
 use native.Mathlib.Nat.{mod-eq-of-lt, add-mul-mod-self-right}
 use lib.Dec.{eqb}
 use lib.ListN.{length, getD, set, drop}
 use Rattle.std.proofs.shelf.Lists.{drop-set-lt, length-set, getD-set-same, getD-set-other}
-use Rattle.std.proofs.shelf.Tests.{cases-eq, eq-eqb, ne-eqb}
 use Rattle.words.specs.Bit.{bit}
-use Rattle.planes.specs.Chart.{Chart, chart, window, written, inWord}
+use Rattle.planes.specs.Chart.{chart, window, written}
 use Rattle.planes.specs.BedLayout.{bedHeight, bedOn, bedSpare}
 use Rattle.planes.proofs.Charts.{window-by, written-by}
 
@@ -82,24 +80,13 @@ module _ (fs bs : List ℕ) (c y v u w : ℕ) (p : c < 64) (q : y < bedHeight fs
       let room = either-length b fs bs (64 * y + c) (omega arith) (omega arith) in
       ap (λ (m : ℕ). bit m (7 - x / 2 % 8)) (either b fs bs u w (64 * y + c) (64 * z + x / 2 / 8) ∙ bed-out (cond b fs bs) c y x z (cond b u w) p room r n)
 
-  stitch-at : (x z : ℕ) → x < 1024 → bedOn fs′ bs′ x z ≡ cond (inWord c y x z) (bit v (15 - x % 16)) (bedOn fs bs x z)
-  stitch-at x z r =
-      elim (cases-eq (x / 16) c) [
-        | inl d ↦
-            elim (cases-eq z y) [
-              | inl e ↦ rw (eq-eqb (x / 16) c d, eq-eqb z y e) (stitch-in x z r d e)
-              | inr e ↦ rw (eq-eqb (x / 16) c d, ne-eqb z y e) (stitch-out x z r (λ _ f. e f))
-            ]
-        | inr d ↦ rw (ne-eqb (x / 16) c d) (stitch-out x z r (λ f _. d f))
-      ]
-
   same-height : bedHeight fs′ bs′ ≡ bedHeight fs bs
   same-height = simp length-set
 
   pub bed-write : chart (bedHeight fs′ bs′) (bedOn fs′ bs′) ≡ written c y v (chart (bedHeight fs bs) (bedOn fs bs))
   bed-write =
       ap (λ (n : ℕ). chart n (bedOn fs′ bs′)) same-height
-      ∙ written-by (bedHeight fs bs) (bedOn fs bs) (bedOn fs′ bs′) c y v (λ x z r _. stitch-at x z r)
+      ∙ written-by (bedHeight fs bs) (bedOn fs bs) (bedOn fs′ bs′) c y v stitch-in stitch-out
 
   spare-stays : (bed : List ℕ) (n : ℕ) → bedSpare (bedHeight fs′ bs′) (set bed (64 * y + c) n) ≡ bedSpare (bedHeight fs bs) bed
   unfolding bedSpare

@@ -7,7 +7,7 @@ use mathlib.Core.Logic.{inl, inr}
 use native.Mathlib.Omega.{arith}
 use native.Mathlib.Nat.{add-assoc}
 use lib.Dec.{eqb, ltb}
-use Rattle.std.proofs.shelf.Tests.{true≢false, eqb-true, ltb-true, lt-ltb, le-ltb, and-parts, and-left, and-right, cases-lt}
+use Rattle.std.proofs.shelf.Tests.{true≢false, eqb-true, ltb-true, lt-ltb, le-ltb, and-parts, and-left, and-right, cases-lt, cases-eq, eq-eqb, ne-eqb}
 use Rattle.std.proofs.shelf.Ways.{tells}
 use Rattle.std.specs.declared.result.Result.{Result}
 use Rattle.std.specs.declared.result.Result.the-variants.{Ok, Err}
@@ -162,14 +162,26 @@ chart-at h f x y p q = rw (lt-ltb x 1024 p, lt-ltb y h q)
 pub window-by : (h : ℕ) (f : ℕ → ℕ → Bool) (w y n : ℕ) → w < 64 → y < h → n < 2 ^ 16 → ((i : ℕ) → i < 16 → bit n (15 - i) ≡ f (16 * w + i) y) → n ≡ window (chart h f) (16 * w) y
 window-by h f w y n p q small e = window-is (chart h f) (16 * w) y n small (λ i l. e i l ∙ sym (chart-at h f (16 * w + i) y (omega arith) q))
 
--- a word that is written, by the stitches
-pub written-by : (h : ℕ) (f g : ℕ → ℕ → Bool) (w z n : ℕ) → ((x y : ℕ) → x < 1024 → y < h → g x y ≡ cond (inWord w z x y) (bit n (15 - x % 16)) (f x y)) → chart h g ≡ written w z n (chart h f)
+-- a word that is written, by the stitches in it and those outside of it
+pub written-by : (h : ℕ) (f g : ℕ → ℕ → Bool) (w z n : ℕ) →
+    ((x y : ℕ) → x < 1024 → x / 16 ≡ w → y ≡ z → g x y ≡ bit n (15 - x % 16)) →
+    ((x y : ℕ) → x < 1024 → (x / 16 ≡ w → y ≡ z → ⊥) → g x y ≡ f x y) →
+    chart h g ≡ written w z n (chart h f)
 unfolding chart written
-written-by h f g w z n e =
-    chart-path (chart h g) (written w z n (chart h f)) refl (λ x y. at x y (within h x y) refl (inWord w z x y) refl)
+written-by h f g w z n within-it outside =
+    chart-path (chart h g) (written w z n (chart h f)) refl (λ x y. at x y (within h x y) refl)
   where
-    at : (x y : ℕ) (p : Bool) → within h x y ≡ p → (b : Bool) → inWord w z x y ≡ b → (p && g x y) ≡ cond (p && b) (bit n (15 - x % 16)) (p && f x y)
-    at x y false is b that = refl
-    at x y true is b that =
-        let (l, m) = and-parts (ltb x 1024) (ltb y h) is in
-        e x y (ltb-true x 1024 l) (ltb-true y h m) ∙ ap (λ (t : Bool). cond t (bit n (15 - x % 16)) (f x y)) that
+    stitch : (x y : ℕ) → x < 1024 → g x y ≡ cond (inWord w z x y) (bit n (15 - x % 16)) (f x y)
+    stitch x y l =
+        elim (cases-eq (x / 16) w) [
+          | inl d ↦
+              elim (cases-eq y z) [
+                | inl e ↦ rw (eq-eqb (x / 16) w d, eq-eqb y z e) (within-it x y l d e)
+                | inr e ↦ rw (eq-eqb (x / 16) w d, ne-eqb y z e) (outside x y l (λ _ q. e q))
+              ]
+          | inr d ↦ rw (ne-eqb (x / 16) w d) (outside x y l (λ q _. d q))
+        ]
+
+    at : (x y : ℕ) (p : Bool) → within h x y ≡ p → (p && g x y) ≡ cond (p && inWord w z x y) (bit n (15 - x % 16)) (p && f x y)
+    at x y false is = refl
+    at x y true is = stitch x y (ltb-true x 1024 (and-parts (ltb x 1024) (ltb y h) is .0))

@@ -2,17 +2,15 @@
 -- Assumes nothing.
 use Prim.Native.Nat.{ℕ, _+_, _-_, _*_, _/_, _%_, _^_, _<_, _≤_, min}
 use mathlib.Core.Path.{_≡_, refl, sym, _∙_, ap, ap₂}
-use mathlib.Core.Bool.{Bool, true, false, cond}
 use mathlib.Core.List.{List}
 use mathlib.Core.Logic.{inl, inr}
 use native.Mathlib.Omega.{arith}
-use lib.Dec.{eqb}
 use lib.ListN.{length, getD, set, drop}
 use Rattle.std.proofs.shelf.Lists.{drop-set-lt, length-set, getD-set-same, getD-set-other}
-use Rattle.std.proofs.shelf.Tests.{cases-lt, cases-eq, eq-eqb, ne-eqb, and-left, and-right}
+use Rattle.std.proofs.shelf.Tests.{cases-lt}
 use Rattle.words.specs.Bit.{bit}
 use Rattle.words.proofs.Bits.{bit-byte-low, bit-byte-high, bit-shr, bit-mod-low}
-use Rattle.planes.specs.Chart.{Chart, chart, window, written, inWord}
+use Rattle.planes.specs.Chart.{chart, window, written}
 use Rattle.planes.specs.FlatLayout.{flatHeight, flatOn, flatSpare}
 use Rattle.planes.proofs.Charts.{window-by, written-by}
 
@@ -59,9 +57,9 @@ module _ (bs : List ℕ) (c y v : ℕ) (p : c < 64) (q : y < flatHeight bs) wher
       getD-set-other (set bs (128 * y + 2 * c) (v / 256)) (128 * y + 2 * c + 1) m (v % 256) 0 o
       ∙ getD-set-other bs (128 * y + 2 * c) m (v / 256) 0 n
 
-  stitch-in : (x z : ℕ) → x / 16 ≡ c → z ≡ y → flatOn after x z ≡ bit v (15 - x % 16)
+  stitch-in : (x z : ℕ) → x < 1024 → x / 16 ≡ c → z ≡ y → flatOn after x z ≡ bit v (15 - x % 16)
   unfolding flatOn
-  stitch-in x z d e =
+  stitch-in x z r d e =
       elim (cases-lt (x % 16) 8) [
         | inl l ↦
             let i : 128 * z + x / 8 ≡ 128 * y + 2 * c = omega arith in
@@ -73,26 +71,15 @@ module _ (bs : List ℕ) (c y v : ℕ) (p : c < 64) (q : y < flatHeight bs) wher
             ap (λ (m : ℕ). bit m (7 - x % 8)) (ap (λ (m : ℕ). getD after m 0) i ∙ second-byte) ∙ bit-mod-low v 8 (7 - x % 8) (omega arith) ∙ ap (bit v) k
       ]
 
-  stitch-out : (x z : ℕ) → x < 1024 → ((x / 16 ≡ c → z ≡ y → ⊥)) → flatOn after x z ≡ flatOn bs x z
+  stitch-out : (x z : ℕ) → x < 1024 → (x / 16 ≡ c → z ≡ y → ⊥) → flatOn after x z ≡ flatOn bs x z
   unfolding flatOn
   stitch-out x z r n =
       ap (λ (m : ℕ). bit m (7 - x % 8)) (other-byte (128 * z + x / 8) (λ i. n (omega arith) (omega arith)) (λ i. n (omega arith) (omega arith)))
 
-  stitch-at : (x z : ℕ) → x < 1024 → flatOn after x z ≡ cond (inWord c y x z) (bit v (15 - x % 16)) (flatOn bs x z)
-  stitch-at x z r =
-      elim (cases-eq (x / 16) c) [
-        | inl d ↦
-            elim (cases-eq z y) [
-              | inl e ↦ rw (eq-eqb (x / 16) c d, eq-eqb z y e) (stitch-in x z d e)
-              | inr e ↦ rw (eq-eqb (x / 16) c d, ne-eqb z y e) (stitch-out x z r (λ _ f. e f))
-            ]
-        | inr d ↦ rw (ne-eqb (x / 16) c d) (stitch-out x z r (λ f _. d f))
-      ]
-
   pub flat-write : chart (flatHeight after) (flatOn after) ≡ written c y v (chart (flatHeight bs) (flatOn bs))
   flat-write =
       ap (λ (n : ℕ). chart (min 1024 (n / 128)) (flatOn after)) same-length
-      ∙ written-by (flatHeight bs) (flatOn bs) (flatOn after) c y v (λ x z r _. stitch-at x z r)
+      ∙ written-by (flatHeight bs) (flatOn bs) (flatOn after) c y v stitch-in stitch-out
 
   pub flat-spare : flatSpare after ≡ flatSpare bs
   unfolding flatSpare

@@ -3,7 +3,7 @@ use mathlib.Core.List.{List, [], _∷_, _++_, append-nil}
 use mathlib.Core.Path.{_≡_, sym, ap, _∙_}
 use native.Mathlib.Omega.{arith}
 use Rattle.std.specs.Of.String.{string-bytes}
-use Rattle.charting.specs.Picture.{marks}
+use Rattle.charting.specs.Rows.{marks}
 use Rattle.charting.proofs.Rows.{marks-more, row-more}
 use Rattle.charting.proofs.push_row.Needs as need
 

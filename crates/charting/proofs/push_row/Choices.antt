@@ -1,7 +1,7 @@
 use mathlib.Core.List.{_++_}
 use mathlib.Core.Path.{_≡_}
 use Rattle.std.specs.Of.String.{string-bytes}
-use Rattle.charting.specs.Picture.{marks}
+use Rattle.charting.specs.Rows.{marks}
 use Rattle.charting.proofs.push_row.Given as given
 
 abbrev pub Inv-loop-i : given.InvT-loop-i

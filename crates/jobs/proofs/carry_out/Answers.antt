@@ -18,7 +18,8 @@ use Rattle.jobs.specs.declared.fault.Fault.{Fault}
 use Rattle.jobs.specs.declared.pen.Pen.{Pen}
 use Rattle.jobs.specs.declared.task.Task.{Task}
 use Rattle.jobs.specs.Faults.{past, start, fault}
-use Rattle.jobs.specs.Tasks.{examined, performed, carried}
+use Rattle.jobs.specs.Tasks.{carried}
+use Rattle.jobs.specs.Walking.{examined, performed}
 use Rattle.jobs.specs.Runs.{judgedFrom, carriedFrom}
 use Rattle.jobs.proofs.Draws.{carried-height}
 use Rattle.jobs.proofs.Walk.{first-size, first-judged, first-carried, first-refused, left-over, blame-ok, blame-err}

@@ -9,7 +9,7 @@ use Rattle.std.specs.declared.result.Result.the-variants.{Ok, Err}
 use Rattle.jobs.specs.declared.pen.Pen.{Pen}
 use Rattle.jobs.specs.Faults.{past}
 use Rattle.jobs.specs.Runs.{judgedFrom}
-use Rattle.jobs.specs.Tasks.{examined}
+use Rattle.jobs.specs.Walking.{examined}
 use Rattle.jobs.proofs.Walk.{first-size, first-judged, first-refused, left-over, blame-ok, blame-err}
 use Rattle.jobs.proofs.check.Needs as need
 use Rattle.jobs.proofs.check.Needs.{In-Continue-task, at·part-rest-count, at·part-rest-start, at·add-spot, at·loop-rest-less, at·loop-rest-again}

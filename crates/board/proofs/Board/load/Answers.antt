@@ -1,20 +1,21 @@
 use Prim.Native.Nat.{ℕ}
 use mathlib.Core.Path.{_≡_, refl, ap, _∙_}
 use Rattle.planes.specs.Chart.{window}
+use Rattle.registers.specs.declared.access.Choice.the-variants.{Nothing, Control}
 use Rattle.registers.specs.declared.cursor.Cursor.{Cursor}
 use Rattle.board.specs.State.{State, stateOf}
-use Rattle.board.proofs.Turns.{load-none, load-control, load-word}
+use Rattle.board.proofs.Turns.{load-none, load-word}
 use Rattle.board.proofs.Board.load.Needs as need
 
 pub returns-in-Nothing : need.returns-in-Nothing
 returns-in-Nothing g c =
     let was : State = stateOf (g .P·Plane .height) (g .P·Plane .stitch) (c .args .self .now) in
-    record { step = load-none (c .args .access) was _ (c .in-Nothing .is) (c .load .ensures); rest = refl }
+    record { step = load-none (c .args .access) was Nothing _ (c .in-Nothing .is) (λ _ _. refl) (c .load .ensures); rest = refl }
 
 pub returns-in-Control : need.returns-in-Control
 returns-in-Control g c =
     let was : State = stateOf (g .P·Plane .height) (g .P·Plane .stitch) (c .args .self .now) in
-    record { step = load-control (c .args .access) was _ (c .in-Control .is) (c .load-in-Control .ensures); rest = refl }
+    record { step = load-none (c .args .access) was Control _ (c .in-Control .is) (λ _ _. refl) (c .load-in-Control .ensures); rest = refl }
 
 pub returns-in-rest : need.returns-in-rest
 returns-in-rest g c =

@@ -13,7 +13,8 @@ use Rattle.drawing.specs.Given.{area}
 use Rattle.drawing.specs.Fills.{filled}
 use Rattle.jobs.specs.declared.task.Task.{Task}
 use Rattle.jobs.specs.declared.task.Task.the-variants.{Fill}
-use Rattle.jobs.specs.Tasks.{taskRuling, drawnBy}
+use Rattle.jobs.specs.Tasks.{taskRuling}
+use Rattle.jobs.specs.Walking.{drawnBy}
 use Rattle.jobs.proofs.Clips.{clip}
 use Rattle.jobs.proofs.Draws.{fill-drawn}
 use Rattle.jobs.proofs.task.Task.draw.Needs as need
