@@ -28,7 +28,7 @@ initiated s = record { shown = s .shown; regs = with-flags 0 false (s .regs) }
 abbrev pub retracedBoard : State → State
 retracedBoard s = record { shown = s .shown; regs = retraced (s .regs) }
 
--- whether a word is under way, and what a board that has one answers
+-- whether a word is under way; a board that has one takes no access
 abbrev pub busy : State → Bool
 busy s = isSome (s .regs .ahead)
 

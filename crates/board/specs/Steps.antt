@@ -1,26 +1,21 @@
 -- What a write and a read make of a board.
 use Prim.Native.Nat.{ℕ}
-use mathlib.Core.Bool.{Bool, cond}
+use mathlib.Core.Bool.{cond}
 use Rattle.std.specs.declared.result.Result.{Result}
 use Rattle.std.specs.declared.result.Result.the-variants.{Ok, Err}
 use Rattle.planes.specs.declared.refusal.Refusal.{Refusal}
 use Rattle.planes.specs.Chart.{Chart, window}
 use Rattle.planes.specs.Drawn.{drawn, reach, laid}
 use Rattle.registers.specs.declared.access.Access.{Access}
-use Rattle.registers.specs.declared.cursor.Cursor.{Cursor}
 use Rattle.registers.specs.Codes.{pairNumber}
 use Rattle.registers.specs.State.{Regs}
 use Rattle.registers.specs.Accesses.{admitted, pointed, entered, loaded}
 use Rattle.board.specs.State.{State}
 
--- what an access makes of a state, and what it answers; a refusal leaves the state as it was
+-- what an access makes of a state; a refusal leaves the state as it was
 abbrev pub after : (Access → State → State) → Result Access Refusal → State → State
 after f (Ok k) s = f k s
 after f (Err e) s = s
-
-abbrev pub told : {V : Type 0} → V → Result Access Refusal → Result V Refusal
-told v (Ok k) = Ok v
-told v (Err e) = Err e
 
 -- ---- a write
 -- the stitches that the registers update at a pair: `width` of them from its place on, with the source's bits from the leftmost on

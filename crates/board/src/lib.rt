@@ -1,12 +1,13 @@
 // A board: a plane, and the registers that work on it.
-ghost use mathlib.Core.Bool.{Bool, true, false, cond};
+ghost use mathlib.Core.Bool.{true};
 ghost use mathlib.Core.Path.{_≡_};
-ghost use Prim.Native.Nat.{ℕ, _%_};
+ghost use Rattle.std.specs.Results.{isErr};
+ghost use Rattle.planes.specs.Answer.{instead};
 ghost use Rattle.planes.specs.Chart.{chartOf};
 ghost use Rattle.registers.specs.State.{plain};
 ghost use Rattle.registers.specs.Accesses.{admitted, answered, interrupted};
 ghost use Rattle.board.specs.State.{stateOf, freshBoard, initiated, retracedBoard, free};
-ghost use Rattle.board.specs.Steps.{poked, peeked, told};
+ghost use Rattle.board.specs.Steps.{poked, peeked};
 use planes::Plane;
 use planes::Refusal;
 use registers::Registers;
@@ -54,10 +55,12 @@ impl<P: Plane> Board<P> {
         Ok(())
     }
 
-    // A write.
+    // A write: sets a coordinate of a pair, then the register chosen, then, if the address asks for it, updates the stitches at the pair.
+    // Stitches off the plane are left out.
     pub fn poke(&mut self, address: u32, value: u16) -> Result<(), Refusal>
-        ensures told { λ r. ⌜ r ≡ told tt (admitted address (plain (now (self .entry) .registers))) ⌝ }
+        ensures told { λ r. ⌜ r ≡ instead tt (admitted address (plain (now (self .entry) .registers))) ⌝ }
         ensures step { λ _. ⌜ stateOf height stitch (now (self .exit)) ≡ poked address value (stateOf height stitch (now (self .entry))) ⌝ }
+        ensures refused { λ r. ⌜ (isErr r ≡ true → now (self .exit) .plane ≡ now (self .entry) .plane) ⌝ }
         ensures rest { λ _. ⌜ rest (now (self .exit) .plane) ≡ rest (now (self .entry) .plane) ⌝ }
     {
         let access = self.registers.admit(address)?;
@@ -69,10 +72,12 @@ impl<P: Plane> Board<P> {
         Ok(())
     }
 
-    // A read.
+    // A read: answers the source as it stands, sets a coordinate of a pair, and loads the register chosen with the sixteen stitches at the pair.
+    // Stitches off the plane are off.
     pub fn peek(&mut self, address: u32) -> Result<u16, Refusal>
-        ensures told { λ r. ⌜ r ≡ told (answered (plain (now (self .entry) .registers))) (admitted address (plain (now (self .entry) .registers))) ⌝ }
+        ensures told { λ r. ⌜ r ≡ instead (answered (plain (now (self .entry) .registers))) (admitted address (plain (now (self .entry) .registers))) ⌝ }
         ensures step { λ _. ⌜ stateOf height stitch (now (self .exit)) ≡ peeked address (stateOf height stitch (now (self .entry))) ⌝ }
+        ensures refused { λ r. ⌜ (isErr r ≡ true → now (self .exit) .plane ≡ now (self .entry) .plane) ⌝ }
         ensures rest { λ _. ⌜ rest (now (self .exit) .plane) ≡ rest (now (self .entry) .plane) ⌝ }
     {
         let access = self.registers.admit(address)?;
@@ -85,7 +90,7 @@ impl<P: Plane> Board<P> {
     // The bus's INIT line.
     pub fn init(&mut self)
         ensures step { λ _. ⌜ stateOf height stitch (now (self .exit)) ≡ initiated (stateOf height stitch (now (self .entry))) ⌝ }
-        ensures rest { λ _. ⌜ rest (now (self .exit) .plane) ≡ rest (now (self .entry) .plane) ⌝ }
+        ensures plane { λ _. ⌜ now (self .exit) .plane ≡ now (self .entry) .plane ⌝ }
     {
         self.registers.init();
     }
@@ -93,7 +98,7 @@ impl<P: Plane> Board<P> {
     // The monitor's vertical retrace.
     pub fn retrace(&mut self)
         ensures step { λ _. ⌜ stateOf height stitch (now (self .exit)) ≡ retracedBoard (stateOf height stitch (now (self .entry))) ⌝ }
-        ensures rest { λ _. ⌜ rest (now (self .exit) .plane) ≡ rest (now (self .entry) .plane) ⌝ }
+        ensures plane { λ _. ⌜ now (self .exit) .plane ≡ now (self .entry) .plane ⌝ }
     {
         self.registers.retrace();
     }

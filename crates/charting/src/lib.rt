@@ -6,7 +6,7 @@ ghost use Rattle.std.specs.Of.String.{string-bytes};
 ghost use Rattle.std.specs.Vec.{made};
 ghost use Rattle.words.specs.Bit.{bit};
 ghost use Rattle.planes.specs.Chart.{chartOf, window};
-ghost use Rattle.charting.specs.Picture.{markOf, picture, line, report, charted};
+ghost use Rattle.charting.specs.Picture.{markOf, picture, line, report, charted, startPen};
 ghost use Rattle.charting.specs.Rows.{rowOf};
 use board::Board;
 use drawing::Brush;
@@ -28,7 +28,7 @@ const BED: usize = 65536;
 
 // The pen that a job begins with: it copies the source, under a mask of ones.
 fn start_pen() -> Pen
-    ensures { λ r. ⌜ r ≡ record { brush = record { code = 0xCC; mask = 0xFFFF }; origin = record { x = record { 0 = 0 }; y = record { 0 = 0 } } } ⌝ }
+    ensures { λ r. ⌜ r ≡ startPen ⌝ }
 {
     Pen {
         brush: Brush {

@@ -12,6 +12,7 @@ use Rattle.std.specs.Options.{isSome}
 use Rattle.std.specs.declared.option.Option.{Option}
 use Rattle.std.specs.declared.result.Result.{Result}
 use Rattle.std.specs.declared.result.Result.the-variants.{Ok, Err}
+use Rattle.planes.specs.Answer.{instead}
 use Rattle.planes.specs.declared.refusal.Refusal.{Refusal}
 use Rattle.planes.specs.declared.refusal.Refusal.the-variants.{WordUnderWay}
 use Rattle.words.proofs.Bits.{bit-ones}
@@ -29,7 +30,7 @@ use Rattle.registers.specs.Codes.{decoded, moved}
 use Rattle.registers.specs.State.{Regs, with-function, with-width, with-flags}
 use Rattle.registers.specs.Accesses.{admitted, enter, pointed}
 use Rattle.board.specs.State.{State, busy}
-use Rattle.board.specs.Steps.{after, told, poking, poked, updated}
+use Rattle.board.specs.Steps.{after, poking, poked, updated}
 use Rattle.drawing.specs.Figures.{Area, inside, allOn}
 use Rattle.drawing.specs.Spending.{Spent}
 use Rattle.drawing.specs.Setting.{Ready, Inked, Aimed, Drew, strip}
@@ -55,8 +56,8 @@ module _ (a n : ℕ) (k : Access) (s : State) (is : admitted a (s .regs) ≡ con
   accepted : admitted a (s .regs) ≡ Ok k
   accepted = is ∙ ap (λ (b : Bool). cond b (Err WordUnderWay) (Ok k)) idle
 
-  pub ask-told : _≡_ {A = Result (Unit {0}) Refusal} (told tt (admitted a (s .regs))) (Ok tt)
-  ask-told = ap (told tt) accepted
+  pub ask-told : _≡_ {A = Result (Unit {0}) Refusal} (instead tt (admitted a (s .regs))) (Ok tt)
+  ask-told = ap (instead tt) accepted
 
   pub ask-step : poked a n s ≡ poking n k s
   ask-step = ap (λ (q : Result Access Refusal). after (poking n) q s) accepted

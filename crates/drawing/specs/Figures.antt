@@ -37,8 +37,3 @@ ruled height a =
     cond (offChart height (a .x) (a .y)) (Err OffChart)
     (cond (empty a) (Err Empty)
     (cond (tooLarge height a) (Err TooLarge) (Ok a)))
-
--- the answer of a call that tells no more than whether it was accepted
-abbrev pub done : {A : Type 0} → Result A Refusal → Result (Unit {0}) Refusal
-done (Ok a) = Ok tt
-done (Err e) = Err e

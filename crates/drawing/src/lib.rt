@@ -3,9 +3,9 @@ ghost use mathlib.Core.Bool.{Bool, true, false, cond};
 ghost use mathlib.Core.Path.{_≡_};
 ghost use Prim.Native.Nat.{ℕ, _+_, _-_, _*_, _<_, _≤_, min};
 ghost use Rattle.std.specs.declared.result.Result.the-variants.{Ok};
+ghost use Rattle.planes.specs.Answer.{instead};
 ghost use Rattle.board.specs.State.{stateOf, busy};
 ghost use Rattle.board.specs.Steps.{poking};
-ghost use Rattle.drawing.specs.Figures.{done};
 ghost use Rattle.drawing.specs.Given.{area, covers};
 ghost use Rattle.drawing.specs.Fills.{fillRuling, filled};
 ghost use Rattle.drawing.specs.Spending.{Spent, Left};
@@ -134,7 +134,7 @@ fn fill_rect<P: Plane>(board: &mut Board<P>, rect: Rect, brush: Brush) -> Result
 
 // Fills a rectangle: each of its stitches takes the bit of the code that its mask bit, a source bit of 1 and itself choose.
 pub fn fill<P: Plane>(board: &mut Board<P>, frame: Frame, brush: Brush) -> Result<(), Refusal>
-    ensures told { λ r. ⌜ r ≡ done (fillRuling (stateOf height stitch (now (board .entry))) (area frame)) ⌝ }
+    ensures told { λ r. ⌜ r ≡ instead tt (fillRuling (stateOf height stitch (now (board .entry))) (area frame)) ⌝ }
     ensures shown { λ _. ⌜ stateOf height stitch (now (board .exit)) .shown ≡ filled (fillRuling (stateOf height stitch (now (board .entry))) (area frame)) (brush .code) (brush .mask) (stateOf height stitch (now (board .entry)) .shown) ⌝ }
     ensures left { λ r. ⌜ Left r (stateOf height stitch (now (board .entry)) .regs) (stateOf height stitch (now (board .exit)) .regs) ⌝ }
     ensures rest { λ _. ⌜ rest (now (board .exit) .plane) ≡ rest (now (board .entry) .plane) ⌝ }

@@ -3,6 +3,7 @@
 use Prim.Native.Nat.{ℕ}
 use mathlib.Core.Bool.{Bool, true, false, cond}
 use mathlib.Core.Path.{_≡_, refl}
+use Rattle.planes.specs.Answer.{instead}
 use Rattle.std.specs.declared.result.Result.{Result}
 use Rattle.std.specs.declared.result.Result.the-variants.{Ok, Err}
 use Rattle.planes.specs.declared.refusal.Refusal.{Refusal}
@@ -10,7 +11,7 @@ use Rattle.planes.specs.declared.refusal.Refusal.the-variants.{OffChart, Empty,
 use Rattle.planes.specs.Chart.{Chart}
 use Rattle.planes.proofs.Drawings.{drawn-height}
 use Rattle.drawing.specs.declared.rect.Frame.{Frame}
-use Rattle.drawing.specs.Figures.{Area, ruled, done, inside, allOn, offChart, empty, tooLarge}
+use Rattle.drawing.specs.Figures.{Area, ruled, inside, allOn, offChart, empty, tooLarge}
 use Rattle.drawing.specs.Given.{area}
 use Rattle.drawing.specs.Fills.{filled}
 use Rattle.jobs.specs.declared.pen.Pen.{Pen}
@@ -21,12 +22,12 @@ use Rattle.jobs.specs.Walking.{drawnBy}
 
 -- an accepted fill draws the rectangle that was asked for
 pub fill-drawn : (h : ℕ) (p : Pen) (f : Frame) (c : Chart) →
-    filled (ruled h (shifted (p .origin) (area f))) (p .brush .code) (p .brush .mask) c ≡ drawnBy (done (ruled h (shifted (p .origin) (area f)))) p (Fill f) c
+    filled (ruled h (shifted (p .origin) (area f))) (p .brush .code) (p .brush .mask) c ≡ drawnBy (instead tt (ruled h (shifted (p .origin) (area f)))) p (Fill f) c
 fill-drawn h p f c = let a : Area = shifted (p .origin) (area f) in by (offChart h (a .x) (a .y)) (empty a) (tooLarge h a)
   where
     by : (off none over : Bool) →
         filled (cond off (Err OffChart) (cond none (Err Empty) (cond over (Err TooLarge) (Ok (shifted (p .origin) (area f)))))) (p .brush .code) (p .brush .mask) c
-        ≡ drawnBy (done {A = Area} (cond off (Err OffChart) (cond none (Err Empty) (cond over (Err TooLarge) (Ok (shifted (p .origin) (area f))))))) p (Fill f) c
+        ≡ drawnBy (instead {A = Area} tt (cond off (Err OffChart) (cond none (Err Empty) (cond over (Err TooLarge) (Ok (shifted (p .origin) (area f))))))) p (Fill f) c
     by true none over = refl
     by false true over = refl
     by false false true = refl

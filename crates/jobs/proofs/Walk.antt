@@ -7,6 +7,7 @@ use mathlib.Core.Path.{_≡_, refl, sym, ap, ap₂, _∙_}
 use native.Mathlib.Omega.{arith}
 use lib.Dec.{ltb}
 use lib.ListN.{length, getD, take, drop}
+use Rattle.planes.specs.Answer.{instead}
 use Rattle.std.proofs.shelf.Lists.{length-take, length-drop, take-rest}
 use Rattle.std.proofs.shelf.Tests.{true≢false, le-ltb, lt-ltb, ltb-true}
 use Rattle.std.proofs.shelf.Ways.{tells}
@@ -21,7 +22,7 @@ use Rattle.jobs.specs.declared.pen.Pen.{Pen}
 use Rattle.jobs.specs.declared.task.Task.{Task}
 use Rattle.jobs.specs.Format.{Field, Parsed, payloadSize, cutOff, parsed, headed, stumped}
 use Rattle.jobs.specs.Faults.{past, fault, blamed}
-use Rattle.jobs.specs.Tasks.{decoded, penAfter, taskRuling, carried, unless}
+use Rattle.jobs.specs.Tasks.{decoded, penAfter, taskRuling, carried}
 use Rattle.jobs.specs.Walking.{with-size, firstOf, allowed, examined}
 use Rattle.jobs.specs.Runs.{ruledTask, verdict, next, judged, judgedFrom, carryNext, carriedAll, carriedFrom}
 
@@ -95,22 +96,22 @@ passed h p true m d k n e = no-answer e
 passed h p false m (Err x) k n e = no-answer e
 passed h p false m (Ok j) k n e = ruling (taskRuling h p j) refl e
   where
-    ruling : (r : Result (Unit {0}) Refusal) → taskRuling h p j ≡ r → _≡_ {A = Result (Task × ℕ) Refusal} (Ok (k, n)) (unless r (j, m)) → Passed h p false m (Ok j) k n
+    ruling : (r : Result (Unit {0}) Refusal) → taskRuling h p j ≡ r → _≡_ {A = Result (Task × ℕ) Refusal} (Ok (k, n)) (instead (j, m) r) → Passed h p false m (Ok j) k n
     ruling (Err x) is q = no-answer q
     ruling (Ok u) is q =
         let both : _≡_ {A = Task × ℕ} (j, m) (k, n) = cc in
         let same = ap (λ (z : Task × ℕ). z .0) both in
         let size = ap (λ (z : Task × ℕ). z .1) (sym both) in
-        record { here = refl; size = size; task = ap Ok same; rules = ap (λ (z : Result (Unit {0}) Refusal). unless z j) is ∙ ap Ok same }
+        record { here = refl; size = size; task = ap Ok same; rules = ap (λ (z : Result (Unit {0}) Refusal). instead j z) is ∙ ap Ok same }
 
 -- a refused one
 refused : (h : ℕ) (p : Pen) (m : ℕ) (d : Result Task Refusal) (x : Refusal) → _≡_ {A = Result (Task × ℕ) Refusal} (Err x) (allowed h p (with-size m d)) → ruledTask h p d ≡ Err x
 refused h p m (Err y) x e = let same : y ≡ x = cc in ap Err same
 refused h p m (Ok j) x e = ruling (taskRuling h p j) refl e
   where
-    ruling : (r : Result (Unit {0}) Refusal) → taskRuling h p j ≡ r → _≡_ {A = Result (Task × ℕ) Refusal} (Err x) (unless r (j, m)) → unless (taskRuling h p j) j ≡ Err x
+    ruling : (r : Result (Unit {0}) Refusal) → taskRuling h p j ≡ r → _≡_ {A = Result (Task × ℕ) Refusal} (Err x) (instead (j, m) r) → instead j (taskRuling h p j) ≡ Err x
     ruling (Ok u) is q = no-answer (sym q)
-    ruling (Err y) is q = let same : y ≡ x = cc in ap (λ (z : Result (Unit {0}) Refusal). unless z j) is ∙ ap Err same
+    ruling (Err y) is q = let same : y ≡ x = cc in ap (λ (z : Result (Unit {0}) Refusal). instead j z) is ∙ ap Err same
 
 module _ (h : ℕ) (p : Pen) (bs : List ℕ) where
   abbrev told : Result Task Refusal

@@ -14,10 +14,11 @@ pub record Field : Type 0 where
 abbrev pub numberAt : List ℕ → ℕ → ℕ
 numberAt bytes i = 256 * getD bytes i 0 + getD bytes (i + 1) 0
 
--- whether the head of the first field, or its payload, runs past the end
+-- the length that the first field says
 abbrev pub payloadSize : List ℕ → ℕ
 payloadSize bytes = numberAt bytes 1
 
+-- whether its head or its payload runs past the end
 abbrev pub cutOff : List ℕ → Bool
 cutOff bytes = ltb (length bytes) 3 || ltb (length bytes) (3 + payloadSize bytes)
 

@@ -4,6 +4,7 @@ use mathlib.Core.Bool.{Bool, cond}
 use mathlib.Core.List.{List, [], _∷_}
 use lib.Dec.{ltb}
 use lib.ListN.{length}
+use Rattle.planes.specs.Answer.{instead}
 use Rattle.std.specs.declared.result.Result.{Result}
 use Rattle.std.specs.declared.result.Result.the-variants.{Ok, Err}
 use Rattle.planes.specs.declared.refusal.Refusal.{Refusal}
@@ -16,11 +17,11 @@ use Rattle.jobs.specs.declared.pen.Pen.{Pen}
 use Rattle.jobs.specs.declared.task.Task.{Task}
 use Rattle.jobs.specs.Format.{Field, Parsed, parsed}
 use Rattle.jobs.specs.Faults.{start, past, fault}
-use Rattle.jobs.specs.Tasks.{decoded, penAfter, taskRuling, carried, unless}
+use Rattle.jobs.specs.Tasks.{decoded, penAfter, taskRuling, carried}
 
 -- the task of a field, or the first refusal that fits
 abbrev pub ruledTask : (height : ℕ) → Pen → Result Task Refusal → Result Task Refusal
-ruledTask height p (Ok k) = unless (taskRuling height p k) k
+ruledTask height p (Ok k) = instead k (taskRuling height p k)
 ruledTask height p (Err e) = Err e
 
 abbrev pub verdict : (height : ℕ) → Pen → Field → Result Task Refusal

@@ -4,12 +4,13 @@ use mathlib.Core.Bool.{cond}
 use mathlib.Core.List.{List}
 use lib.Dec.{eqb}
 use lib.ListN.{length, getD}
+use Rattle.planes.specs.Answer.{instead}
 use Rattle.std.specs.declared.result.Result.{Result}
 use Rattle.std.specs.declared.result.Result.the-variants.{Ok, Err}
 use Rattle.planes.specs.declared.refusal.Refusal.{Refusal}
 use Rattle.planes.specs.declared.refusal.Refusal.the-variants.{UnknownTag, WrongLength}
 use Rattle.planes.specs.Chart.{Chart}
-use Rattle.drawing.specs.Figures.{Area, ruled, done}
+use Rattle.drawing.specs.Figures.{Area, ruled}
 use Rattle.drawing.specs.Given.{area}
 use Rattle.drawing.specs.Fills.{filled}
 use Rattle.jobs.specs.declared.pen.Origin.{Origin}
@@ -42,20 +43,15 @@ penAfter (Fill f) p = p
 abbrev pub shifted : Origin → Area → Area
 shifted o a = record { x = a .x + o .x .0; y = a .y + o .y .0; w = a .w; h = a .h }
 
--- ---- what it draws
+-- ---- what it draws, and whether it may
 abbrev pub taskRuling : (height : ℕ) → Pen → Task → Result (Unit {0}) Refusal
 taskRuling height p (Code n) = Ok tt
 taskRuling height p (Mask n) = Ok tt
 taskRuling height p (ToOrigin o) = Ok tt
-taskRuling height p (Fill f) = done (ruled height (shifted (p .origin) (area f)))
+taskRuling height p (Fill f) = instead tt (ruled height (shifted (p .origin) (area f)))
 
 abbrev pub carried : Pen → Task → Chart → Chart
 carried p (Code n) c = c
 carried p (Mask n) c = c
 carried p (ToOrigin o) c = c
 carried p (Fill f) c = filled (Ok (shifted (p .origin) (area f))) (p .brush .code) (p .brush .mask) c
-
--- a value, unless there is a refusal
-abbrev pub unless : {V : Type 0} → Result (Unit {0}) Refusal → V → Result V Refusal
-unless (Ok u) v = Ok v
-unless (Err e) v = Err e

@@ -3,6 +3,7 @@ use Prim.Native.Nat.{ℕ, _+_, min}
 use mathlib.Core.Bool.{cond}
 use mathlib.Core.List.{List}
 use lib.ListN.{getD, take, drop}
+use Rattle.planes.specs.Answer.{instead}
 use Rattle.std.specs.declared.result.Result.{Result}
 use Rattle.std.specs.declared.result.Result.the-variants.{Ok, Err}
 use Rattle.planes.specs.declared.refusal.Refusal.{Refusal}
@@ -13,7 +14,7 @@ use Rattle.jobs.specs.declared.pen.Origin.{Origin}
 use Rattle.jobs.specs.declared.pen.Pen.{Pen}
 use Rattle.jobs.specs.declared.task.Task.{Task}
 use Rattle.jobs.specs.Format.{payloadSize, cutOff}
-use Rattle.jobs.specs.Tasks.{decoded, taskRuling, carried, unless}
+use Rattle.jobs.specs.Tasks.{decoded, taskRuling, carried}
 
 -- a place moved by the origin, as sixteen bits have it: a sum that does not fit is the largest number
 abbrev pub clipped : Origin → Area → Area
@@ -34,7 +35,7 @@ abbrev pub firstOf : List ℕ → Result (Task × ℕ) Refusal
 firstOf bytes = cond (cutOff bytes) (Err Truncated) (with-size (3 + payloadSize bytes) (decoded (getD bytes 0 0) (take (payloadSize bytes) (drop 3 bytes))))
 
 abbrev pub allowed : (height : ℕ) → Pen → Result (Task × ℕ) Refusal → Result (Task × ℕ) Refusal
-allowed height p (Ok q) = unless (taskRuling height p (q .0)) q
+allowed height p (Ok q) = instead q (taskRuling height p (q .0))
 allowed height p (Err e) = Err e
 
 abbrev pub examined : (height : ℕ) → Pen → List ℕ → Result (Task × ℕ) Refusal

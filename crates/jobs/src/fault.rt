@@ -20,7 +20,7 @@ pub struct Fault {
 }
 
 impl Spot {
-    // A refusal of the field at this spot.
+    // A refusal as one of the field at this spot; what is accepted is handed on.
     pub(crate) fn blame<T>(self, result: Result<T, Refusal>) -> Result<T, Fault>
         ensures { λ r. ⌜ r ≡ blamed self result ⌝ }
     {

@@ -5,9 +5,14 @@ use mathlib.Core.List.{List}
 use lib.Dec.{eqb}
 use lib.ListN.{length, getD, drop}
 use Rattle.words.specs.Bit.{bit}
+use Rattle.planes.specs.Chart.{Height, capped}
+
+-- the number of courses that are whole in both, at most 1024
+abbrev pub bedTall : (front back : List ℕ) → Height
+bedTall front back = capped (min (length front / 64) (length back / 64))
 
 abbrev pub bedHeight : (front back : List ℕ) → ℕ
-bedHeight front back = min 1024 (min (length front / 64) (length back / 64))
+bedHeight front back = bedTall front back .rows
 
 unfoldable pub bedOn : (front back : List ℕ) → ℕ → ℕ → Bool
 bedOn front back x y = bit (getD (cond (eqb (x % 2) 0) front back) (64 * y + x / 2 / 8) 0) (7 - x / 2 % 8)

@@ -3,9 +3,7 @@ ghost use denote.Ref.{name, now};
 ghost use mathlib.Core.List.{List, [], _∷_};
 ghost use mathlib.Core.Path.{_≡_};
 ghost use Prim.Native.Nat.{ℕ, _/_, min};
-ghost use lib.ListN.{length};
-ghost use Rattle.planes.specs.Chart.{capped};
-ghost use Rattle.planes.specs.FlatLayout.{flatOn, flatSpare};
+ghost use Rattle.planes.specs.FlatLayout.{flatTall, flatOn, flatSpare};
 use crate::Course;
 use crate::Plane;
 use crate::Refusal;
@@ -36,7 +34,7 @@ impl<'a> Flat<'a> {
 
 // It keeps the bytes past the last course, and who lent them.
 pub impl<'a> Plane for Flat<'a> as FlatPlane {
-    ghost height = { λ p. capped (length (now (p .bytes)) / 128) };
+    ghost height = { λ p. flatTall (now (p .bytes)) };
 
     ghost stitch = { λ p. flatOn (now (p .bytes)) };
 

@@ -3,9 +3,7 @@ ghost use denote.Ref.{name, now};
 ghost use mathlib.Core.List.{List, [], _∷_};
 ghost use mathlib.Core.Path.{_≡_};
 ghost use Prim.Native.Nat.{ℕ, _/_, min};
-ghost use lib.ListN.{length};
-ghost use Rattle.planes.specs.Chart.{capped};
-ghost use Rattle.planes.specs.BedLayout.{bedHeight, bedOn, bedSpare};
+ghost use Rattle.planes.specs.BedLayout.{bedTall, bedHeight, bedOn, bedSpare};
 use crate::Course;
 use crate::Plane;
 use crate::Refusal;
@@ -39,7 +37,7 @@ impl<'f, 'b> TwoBed<'f, 'b> {
 
 // It keeps the bytes of each bed past the last course, and who lent them.
 pub impl<'f, 'b> Plane for TwoBed<'f, 'b> as TwoBedPlane {
-    ghost height = { λ p. capped (min (length (now (p .front)) / 64) (length (now (p .back)) / 64)) };
+    ghost height = { λ p. bedTall (now (p .front)) (now (p .back)) };
 
     ghost stitch = { λ p. bedOn (now (p .front)) (now (p .back)) };
 

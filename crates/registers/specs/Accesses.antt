@@ -42,12 +42,20 @@ accessOf a = record {
 abbrev pub unitOf : ℕ → ℕ
 unitOf a = a / 131072 % 8
 
--- the access, or the first refusal that fits
-abbrev pub admitted : ℕ → Regs → Result Access Refusal
-admitted a r =
+-- the access that an address asks of a unit, or the first refusal that fits
+abbrev pub addressed : (unit address : ℕ) → Result Access Refusal
+addressed unit a =
     cond (eqb (a % 2) 1) (Err BadAddress)
     (cond (ltb 0xfffff a) (Err BadAddress)
-    (cond (eqb (unitOf a) (r .unit)) (cond (isSome (r .ahead)) (Err WordUnderWay) (Ok (accessOf a))) (Err OtherUnit)))
+    (cond (eqb (unitOf a) unit) (Ok (accessOf a)) (Err OtherUnit)))
+
+-- no access is taken while a word is under way
+abbrev pub unlessBusy : (busy : Bool) → Result Access Refusal → Result Access Refusal
+unlessBusy busy (Ok k) = cond busy (Err WordUnderWay) (Ok k)
+unlessBusy busy (Err e) = Err e
+
+abbrev pub admitted : ℕ → Regs → Result Access Refusal
+admitted a r = unlessBusy (isSome (r .ahead)) (addressed (r .unit) a)
 
 -- ---- and the other way: the address of an access
 abbrev pub axisNumber : Axis → ℕ

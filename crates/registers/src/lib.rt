@@ -21,7 +21,7 @@ pub mod cursor;
 pub mod unit;
 pub mod width;
 
-// `ahead` is the word under way, if there is one.
+// Bit 0 of `status` is D8. `ahead` is the word under way, if there is one.
 #[derive(Clone, Copy)]
 pub struct Registers {
     pub source: u16,
@@ -91,7 +91,7 @@ impl Registers {
         self.cursors[pair.number()]
     }
 
-    // Writes the register that an access chose.
+    // Writes the register that an access chose; the last control register is the flag, which any write clears.
     pub fn enter(&mut self, access: Access, value: u16)
         ensures { λ _. ⌜ plain (now (self .exit)) ≡ entered access value (plain (now (self .entry))) ⌝ }
     {
@@ -108,7 +108,7 @@ impl Registers {
         }
     }
 
-    // Loads the register that an access chose with the sixteen stitches at its place.
+    // Loads the register that an access chose with the sixteen stitches at its place. Of the control registers only the flag answers to a read, and is cleared.
     pub fn load(&mut self, access: Access, word: u16)
         ensures { λ _. ⌜ plain (now (self .exit)) ≡ loaded access word (plain (now (self .entry))) ⌝ }
     {

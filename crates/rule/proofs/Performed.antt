@@ -5,6 +5,7 @@ use mathlib.Core.Bool.{Bool, true, false, cond}
 use mathlib.Core.List.{List}
 use mathlib.Core.Path.{_≡_, refl, sym, ap, _∙_}
 use lib.Dec.{eqb, ltb}
+use Rattle.planes.specs.Answer.{instead}
 use Rattle.std.proofs.shelf.Tests.{cond-false}
 use Rattle.std.specs.Options.{isSome}
 use Rattle.std.specs.declared.option.Option.{Option}
@@ -18,11 +19,11 @@ use Rattle.registers.specs.declared.access.Choice.{Choice}
 use Rattle.registers.specs.declared.access.Choice.the-variants.{Nothing, Control, Source, Mask}
 use Rattle.registers.specs.Codes.{pairNumber}
 use Rattle.registers.specs.State.{Regs, with-flags}
-use Rattle.registers.specs.Accesses.{accessOf, unitOf, admitted, pointed, load}
+use Rattle.registers.specs.Accesses.{accessOf, unitOf, addressed, unlessBusy, admitted, pointed, load}
 use Rattle.board.specs.State as board
 use Rattle.board.specs.State.{busy}
-use Rattle.board.specs.Steps.{after, told, poking, poked, loading, peeking, peeked, stitchesAt}
-use Rattle.drawing.specs.Figures.{Area, ruled, done}
+use Rattle.board.specs.Steps.{after, poking, poked, loading, peeking, peeked, stitchesAt}
+use Rattle.drawing.specs.Figures.{Area, ruled}
 use Rattle.drawing.specs.Fills.{fillRuling, filled}
 use Rattle.drawing.specs.Spending.{Spent, Left}
 use Rattle.drawing.specs.Setting.{Ready}
@@ -32,20 +33,20 @@ use Rattle.jobs.specs.declared.fault.Fault.{Fault}
 use Rattle.jobs.specs.declared.pen.Pen.{Pen}
 use Rattle.jobs.specs.Faults.{start, fault}
 use Rattle.jobs.specs.Runs.{jobAnswer, runAnswer, runChart, ranTo}
-use Rattle.rule.specs.Rule.{State, fill, run, settled, reported, reached, answer, next}
+use Rattle.rule.specs.Rule.{State, fill, run, settled, reported, ruling, next}
 use Rattle.rule.specs.Calls.{ruleOf}
 
--- ---- a fill
-settled-done : {A : Type 0} (r : Result A Refusal) → settled (done r) ≡ settled r
-settled-done (Ok a) = refl
-settled-done (Err e) = refl
+settled-instead : {A V : Type 0} (v : V) (r : Result A Refusal) → settled (instead v r) ≡ settled r
+settled-instead v (Ok a) = refl
+settled-instead v (Err e) = refl
 
+-- ---- a fill
 module _ (s t : board.State) (a : Area) (code mask : ℕ) (idle : busy s ≡ false) where
   free-ruling : fillRuling s a ≡ ruled (s .shown .height) a
   free-ruling = ap (λ (b : Bool). cond b (Err WordUnderWay) (ruled (s .shown .height) a)) idle
 
-  pub fill-answer : (r : Result (Unit {0}) Refusal) → r ≡ done (fillRuling s a) → settled r ≡ answer (ruleOf s) (fill a code mask)
-  fill-answer r e = ap settled e ∙ settled-done (fillRuling s a) ∙ ap settled free-ruling
+  pub fill-answer : (r : Result (Unit {0}) Refusal) → r ≡ instead tt (fillRuling s a) → settled r ≡ ruling (ruleOf s) (fill a code mask)
+  fill-answer r e = ap settled e ∙ settled-instead tt (fillRuling s a) ∙ ap settled free-ruling
 
   pub fill-next : t .shown ≡ filled (fillRuling s a) code mask (s .shown) → t .regs .unit ≡ s .regs .unit → ruleOf t ≡ next (ruleOf s) (fill a code mask)
   fill-next shown unit =
@@ -57,7 +58,7 @@ module _ (s t : board.State) (job : List ℕ) (p : Pen) (idle : busy s ≡ false
   free-answer : runAnswer s p job ≡ jobAnswer (s .shown .height) p job
   free-answer = ap (λ (b : Bool). cond b (Err (fault WordUnderWay start)) (jobAnswer (s .shown .height) p job)) idle
 
-  pub run-answer : (r : Result ℕ Fault) → r ≡ runAnswer s p job → reported r ≡ answer (ruleOf s) (run job p)
+  pub run-answer : (r : Result ℕ Fault) → r ≡ runAnswer s p job → reported r ≡ ruling (ruleOf s) (run job p)
   run-answer r e = ap reported (e ∙ free-answer)
 
   pub run-next : t .shown ≡ runChart s p job → t .regs .unit ≡ s .regs .unit → ruleOf t ≡ next (ruleOf s) (run job p)
@@ -75,34 +76,26 @@ left-idle (Ok v) before after l idle = ap (λ (o : Option ℕ). isSome o) (l .ah
 left-idle (Err e) before after l idle = ap (λ (q : Regs). isSome (q .ahead)) l ∙ idle
 
 -- ---- an access
--- by its three tests
-by-tests : {V : Type 0} (v : V) (k : Access) (odd long ours : Bool) →
-    settled (told v (cond odd (Err BadAddress) (cond long (Err BadAddress) (cond ours (Ok k) (Err OtherUnit)))))
-    ≡ settled {A = Unit {0}} (cond odd (Err BadAddress) (cond long (Err BadAddress) (cond ours (Ok tt) (Err OtherUnit))))
-by-tests v k true long ours = refl
-by-tests v k false true ours = refl
-by-tests v k false false true = refl
-by-tests v k false false false = refl
+unbusy : (q : Result Access Refusal) → unlessBusy false q ≡ q
+unbusy (Ok k) = refl
+unbusy (Err e) = refl
 
-module _ (a : ℕ) (s : board.State) (idle : busy s ≡ false) where
-  free-admitted : admitted a (s .regs) ≡ cond (eqb (a % 2) 1) (Err BadAddress) (cond (ltb 0xfffff a) (Err BadAddress) (cond (eqb (unitOf a) (s .regs .unit)) (Ok (accessOf a)) (Err OtherUnit)))
-  free-admitted =
-      ap (λ (b : Bool). cond (eqb (a % 2) 1) (Err BadAddress) (cond (ltb 0xfffff a) (Err BadAddress) (cond (eqb (unitOf a) (s .regs .unit)) (cond b (Err WordUnderWay) (Ok (accessOf a))) (Err OtherUnit)))) idle
-
-  pub access-answer : {V : Type 0} (v : V) → settled (told v (admitted a (s .regs))) ≡ settled (reached (s .regs .unit) a)
-  access-answer v = ap (λ (q : Result Access Refusal). settled (told v q)) free-admitted ∙ by-tests v (accessOf a) (eqb (a % 2) 1) (ltb 0xfffff a) (eqb (unitOf a) (s .regs .unit))
+pub access-answer : {V : Type 0} (a : ℕ) (s : board.State) → busy s ≡ false → (v : V) → settled (instead v (admitted a (s .regs))) ≡ settled (addressed (s .regs .unit) a)
+access-answer a s idle v =
+    settled-instead v (admitted a (s .regs))
+    ∙ ap settled (ap (λ (b : Bool). unlessBusy b (addressed (s .regs .unit) a)) idle ∙ unbusy (addressed (s .regs .unit) a))
 
 -- what holds of a state and of what the access at an address makes of it holds after it, refused or not
-admitted-by : (P : board.State → Type 0) (f : Access → board.State → board.State) (k : Access) (s : board.State) (odd long ours taken : Bool) → P s → P (f k s) →
-    P (after f (cond odd (Err BadAddress) (cond long (Err BadAddress) (cond ours (cond taken (Err WordUnderWay) (Ok k)) (Err OtherUnit)))) s)
-admitted-by P f k s true long ours taken p q = p
-admitted-by P f k s false true ours taken p q = p
-admitted-by P f k s false false false taken p q = p
-admitted-by P f k s false false true true p q = p
-admitted-by P f k s false false true false p q = q
+by-tests : (P : board.State → Type 0) (f : Access → board.State → board.State) (k : Access) (s : board.State) (odd long ours taken : Bool) → P s → P (f k s) →
+    P (after f (unlessBusy taken (cond odd (Err BadAddress) (cond long (Err BadAddress) (cond ours (Ok k) (Err OtherUnit))))) s)
+by-tests P f k s true long ours taken p q = p
+by-tests P f k s false true ours taken p q = p
+by-tests P f k s false false false taken p q = p
+by-tests P f k s false false true true p q = p
+by-tests P f k s false false true false p q = q
 
-pub accessed : (P : board.State → Type 0) (f : Access → board.State → board.State) (a : ℕ) (s : board.State) → P s → P (f (accessOf a) s) → P (after f (admitted a (s .regs)) s)
-accessed P f a s p q = admitted-by P f (accessOf a) s (eqb (a % 2) 1) (ltb 0xfffff a) (eqb (unitOf a) (s .regs .unit)) (busy s) p q
+accessed : (P : board.State → Type 0) (f : Access → board.State → board.State) (a : ℕ) (s : board.State) → P s → P (f (accessOf a) s) → P (after f (admitted a (s .regs)) s)
+accessed P f a s p q = by-tests P f (accessOf a) s (eqb (a % 2) 1) (ltb 0xfffff a) (eqb (unitOf a) (s .regs .unit)) (busy s) p q
 
 -- ---- a write
 module _ (a n : ℕ) (s : board.State) (idle : busy s ≡ false) where

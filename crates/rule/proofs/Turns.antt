@@ -7,7 +7,7 @@ use native.Mathlib.Omega.{arith}
 use lib.ListN.{length, getD, set, take, drop}
 use Rattle.std.proofs.shelf.Lists.{drop-more, drop-set-lt, drop-all, take-more-set, take-all, map-push, map-set, set-getD, getD-map}
 use Rattle.rule.specs.declared.Step.{Step}
-use Rattle.rule.specs.Rule.{State, Asked, Told, Clear, AllClear, answer, next, final, outcomes}
+use Rattle.rule.specs.Rule.{State, Asked, Told, Clear, AllClear, ruling, next, final, outcomes}
 use Rattle.rule.specs.Calls.{asked, question, told}
 
 module _ (s : State) (steps : List Step) (i : ℕ) (d k : Step) (lt : i < length steps) (same : question k ≡ question (getD steps i d)) where
@@ -38,7 +38,7 @@ module _ (s : State) (steps : List Step) (i : ℕ) (d k : Step) (lt : i < length
       ∙ ap (final s) (sym split)
       ∙ inv
 
-  pub answers-more : {goal : List Told} (t : State) → t ≡ next s (question (getD steps i d)) → k .answer ≡ answer s (question (getD steps i d)) →
+  pub answers-more : {goal : List Told} (t : State) → t ≡ next s (question (getD steps i d)) → k .answer ≡ ruling s (question (getD steps i d)) →
       map told (take i steps) ++ outcomes s (map question (drop i steps)) ≡ goal →
       map told (take (i + 1) (set steps i k)) ++ outcomes t (map question (drop (i + 1) (set steps i k))) ≡ goal
   answers-more t done said inv =

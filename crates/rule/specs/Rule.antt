@@ -1,15 +1,14 @@
 -- The stitch rule: what each call answers and leaves on the chart, one stitch at a time, with no register.
 use Prim.Native.Nat.{ℕ, _/_, _%_}
-use mathlib.Core.Bool.{Bool, false, cond}
+use mathlib.Core.Bool.{false}
 use mathlib.Core.List.{List, [], _∷_}
 use mathlib.Core.Path.{_≡_}
-use lib.Dec.{eqb, ltb}
+use lib.Dec.{eqb}
 use Rattle.std.specs.declared.result.Result.{Result}
 use Rattle.std.specs.declared.result.Result.the-variants.{Ok, Err}
 use Rattle.planes.specs.declared.refusal.Refusal.{Refusal}
-use Rattle.planes.specs.declared.refusal.Refusal.the-variants.{BadAddress, OtherUnit}
 use Rattle.planes.specs.Chart.{Chart}
-use Rattle.registers.specs.Accesses.{unitOf}
+use Rattle.registers.specs.Accesses.{addressed}
 use Rattle.drawing.specs.Figures.{Area, ruled}
 use Rattle.drawing.specs.Fills.{filled}
 use Rattle.jobs.specs.declared.fault.Fault.{Fault}
@@ -34,13 +33,6 @@ pub data Asked : Type 0 where
   interrupt : Asked
 
 -- ---- one call
--- whether an access is taken
-abbrev pub reached : (unit address : ℕ) → Result (Unit {0}) Refusal
-reached unit a =
-    cond (eqb (a % 2) 1) (Err BadAddress)
-    (cond (ltb 0xfffff a) (Err BadAddress)
-    (cond (eqb (unitOf a) unit) (Ok tt) (Err OtherUnit)))
-
 abbrev pub settled : {A : Type 0} → Result A Refusal → Answer
 settled (Ok a) = Done
 settled (Err e) = Refused e
@@ -49,14 +41,14 @@ abbrev pub reported : Result ℕ Fault → Answer
 reported (Ok n) = Ran n
 reported (Err f) = Faulty f
 
-abbrev pub answer : State → Asked → Answer
-answer s (fill a code mask) = settled (ruled (s .chart .height) a)
-answer s (run job p) = reported (jobAnswer (s .chart .height) p job)
-answer s (peek a) = settled (reached (s .unit) a)
-answer s (poke a n) = settled (reached (s .unit) a)
-answer s init = Done
-answer s retrace = Done
-answer s interrupt = Done
+abbrev pub ruling : State → Asked → Answer
+ruling s (fill a code mask) = settled (ruled (s .chart .height) a)
+ruling s (run job p) = reported (jobAnswer (s .chart .height) p job)
+ruling s (peek a) = settled (addressed (s .unit) a)
+ruling s (poke a n) = settled (addressed (s .unit) a)
+ruling s init = Done
+ruling s retrace = Done
+ruling s interrupt = Done
 
 -- only drawings change the chart, and a refused one does not
 abbrev pub drawing : State → Asked → Chart
@@ -97,7 +89,7 @@ pub record Told : Type 0 where
 
 abbrev pub outcomes : State → List Asked → List Told
 outcomes s [] = []
-outcomes s (a ∷ more) = record { call = a; answer = answer s a } ∷ outcomes (next s a) more
+outcomes s (a ∷ more) = record { call = a; answer = ruling s a } ∷ outcomes (next s a) more
 
 abbrev pub AllClear : List Asked → Type 0
 AllClear [] = Unit {0}

@@ -6,7 +6,7 @@ ghost use Prim.Native.Nat.{ℕ, _%_};
 ghost use Rattle.planes.specs.Chart.{chartOf};
 ghost use Rattle.board.specs.State.{stateOf, busy};
 ghost use Rattle.rule.specs.Calls.{asked, question, told, ruleOf};
-ghost use Rattle.rule.specs.Rule.{Clear, AllClear, answer, next, final, outcomes, begun, settled, reported};
+ghost use Rattle.rule.specs.Rule.{Clear, AllClear, ruling, next, final, outcomes, begun, settled, reported};
 use board::Board;
 use drawing::Brush;
 use drawing::Frame;
@@ -66,7 +66,7 @@ fn report(result: Result<usize, Fault>) -> Answer
 // Makes one call.
 fn perform<P: Plane>(board: &mut Board<P>, call: &mut Call) -> Answer
     requires idle { ⌜ busy (stateOf height stitch (now board)) ≡ false ⌝ }
-    ensures answer { λ r. ⌜ (Clear (asked (now (call .entry))) → r ≡ answer (ruleOf (stateOf height stitch (now (board .entry)))) (asked (now (call .entry)))) ⌝ }
+    ensures answer { λ r. ⌜ (Clear (asked (now (call .entry))) → r ≡ ruling (ruleOf (stateOf height stitch (now (board .entry)))) (asked (now (call .entry)))) ⌝ }
     ensures next { λ _. ⌜ (Clear (asked (now (call .entry))) → ruleOf (stateOf height stitch (now (board .exit))) ≡ next (ruleOf (stateOf height stitch (now (board .entry)))) (asked (now (call .entry)))) ⌝ }
     ensures call { λ _. ⌜ asked (now (call .exit)) ≡ asked (now (call .entry)) ⌝ }
     ensures idle { λ _. ⌜ busy (stateOf height stitch (now (board .exit))) ≡ false ⌝ }

@@ -10,7 +10,7 @@ use Rattle.drawing.specs.Given.{area}
 use Rattle.rule.specs.declared.Call.{Call}
 use Rattle.jobs.specs.declared.pen.Pen.{Pen}
 use Rattle.jobs.specs.Runs.{runAnswer, runChart}
-use Rattle.rule.specs.Rule.{State, run, Clear, settled, answer, next}
+use Rattle.rule.specs.Rule.{State, run, Clear, settled, ruling, next}
 use Rattle.rule.specs.Calls.{asked, ruleOf}
 use Rattle.rule.proofs.Performed.{fill-answer, fill-next, run-answer, run-next, left-unit, left-idle, access-answer, poke-next, poke-idle, peek-next, peek-idle}
 use Rattle.rule.proofs.perform.Needs as need
@@ -23,7 +23,7 @@ returns-in-Fill g c =
     let b = c .in-Fill .brush in
     let e = c .fill .ensures in
     record {
-      answer = λ _. c .settle .ensures ∙ fill-answer was end (area f) (b .code) (b .mask) (c .pre .idle) (c .fill .result) (e .told) ∙ ap (λ (k : Call). answer (ruleOf was) (asked k)) (sym (c .in-Fill .is));
+      answer = λ _. c .settle .ensures ∙ fill-answer was end (area f) (b .code) (b .mask) (c .pre .idle) (c .fill .result) (e .told) ∙ ap (λ (k : Call). ruling (ruleOf was) (asked k)) (sym (c .in-Fill .is));
       next = λ _. fill-next was end (area f) (b .code) (b .mask) (c .pre .idle) (e .shown) (left-unit (c .fill .result) (was .regs) (end .regs) (e .left)) ∙ ap (λ (k : Call). next (ruleOf was) (asked k)) (sym (c .in-Fill .is));
       call = ap asked (sym (c .in-Fill .is));
       idle = left-idle (c .fill .result) (was .regs) (end .regs) (e .left) (c .pre .idle);
@@ -41,7 +41,7 @@ returns-in-Run g c =
     let shown = e .shown ∙ ap (runChart was pen) bytes in
     let job : List ℕ = vec-items (c .in-Run .job) in
     record {
-      answer = λ _. c .report .ensures ∙ run-answer was end job pen (c .pre .idle) (c .run .result) told ∙ ap (λ (k : Call). answer (ruleOf was) (asked k)) (sym (c .in-Run .is));
+      answer = λ _. c .report .ensures ∙ run-answer was end job pen (c .pre .idle) (c .run .result) told ∙ ap (λ (k : Call). ruling (ruleOf was) (asked k)) (sym (c .in-Run .is));
       next = λ _. run-next was end job pen (c .pre .idle) shown (left-unit (c .run .result) (was .regs) (end .regs) (e .left)) ∙ ap (λ (k : Call). next (ruleOf was) (asked k)) (sym (c .in-Run .is));
       call = ap (run job) (e .pen) ∙ ap asked (sym (c .in-Run .is));
       idle = left-idle (c .run .result) (was .regs) (end .regs) (e .left) (c .pre .idle);
@@ -54,7 +54,7 @@ returns-in-Peek g c =
     let a : ℕ = c .in-Peek .address in
     let e = c .peek .ensures in
     record {
-      answer = λ _. c .settle-in-Peek .ensures ∙ ap settled (e .told) ∙ access-answer a was (c .pre .idle) (answered (was .regs)) ∙ ap (λ (k : Call). answer (ruleOf was) (asked k)) (sym (c .in-Peek .is));
+      answer = λ _. c .settle-in-Peek .ensures ∙ ap settled (e .told) ∙ access-answer a was (c .pre .idle) (answered (was .regs)) ∙ ap (λ (k : Call). ruling (ruleOf was) (asked k)) (sym (c .in-Peek .is));
       next = λ _. ap ruleOf (e .step) ∙ peek-next a was ∙ ap (λ (k : Call). next (ruleOf was) (asked k)) (sym (c .in-Peek .is));
       call = ap asked (sym (c .in-Peek .is));
       idle = ap busy (e .step) ∙ peek-idle a was (c .pre .idle);
@@ -68,7 +68,7 @@ returns-in-Poke g c =
     let n : ℕ = c .in-Poke .value in
     let e = c .poke .ensures in
     record {
-      answer = λ _. c .settle-in-Poke .ensures ∙ ap settled (e .told) ∙ access-answer a was (c .pre .idle) tt ∙ ap (λ (k : Call). answer (ruleOf was) (asked k)) (sym (c .in-Poke .is));
+      answer = λ _. c .settle-in-Poke .ensures ∙ ap settled (e .told) ∙ access-answer a was (c .pre .idle) tt ∙ ap (λ (k : Call). ruling (ruleOf was) (asked k)) (sym (c .in-Poke .is));
       next = λ clear. ap ruleOf (e .step) ∙ poke-next a n was (c .pre .idle) (subst (λ (k : Call). Clear (asked k)) (c .in-Poke .is) clear) ∙ ap (λ (k : Call). next (ruleOf was) (asked k)) (sym (c .in-Poke .is));
       call = ap asked (sym (c .in-Poke .is));
       idle = ap busy (e .step) ∙ poke-idle a n was (c .pre .idle);

@@ -1,10 +1,11 @@
 use Prim.Native.Nat.{ℕ, _≤_, min}
 use mathlib.Core.Path.{_≡_, sym, ap, _∙_}
 use native.Mathlib.Omega.{arith}
+use Rattle.planes.specs.Answer.{instead}
 use Rattle.std.proofs.shelf.Results.{err-from-errBy}
 use Rattle.std.specs.declared.result.Result.{Result}
 use Rattle.planes.specs.declared.refusal.Refusal.{Refusal}
-use Rattle.drawing.specs.Figures.{Area, ruled, done}
+use Rattle.drawing.specs.Figures.{Area, ruled}
 use Rattle.drawing.specs.Given.{area}
 use Rattle.jobs.specs.declared.task.Task.{Task}
 use Rattle.jobs.specs.Tasks.{taskRuling}
@@ -16,5 +17,5 @@ returns-in-Break-on c =
     let p = err-from-errBy (c .from-residual .result) (c .from-residual .ensures .1) in
     let low : min 1024 (c .args .height) ≡ c .args .height = omega arith in
     rw (p .1, p .2)
-    (ap done (c .in-Break-on .ensures tt ∙ (λ i. ruled (low i) (c .place .ensures i)) ∙ clip (c .args .height) (c .args .pen .origin) (area (c .in-Fill .frame)) (c .pre .low))
+    (ap (instead tt) (c .in-Break-on .ensures tt ∙ (λ i. ruled (low i) (c .place .ensures i)) ∙ clip (c .args .height) (c .args .pen .origin) (area (c .in-Fill .frame)) (c .pre .low))
     ∙ ap (taskRuling (c .args .height) (c .args .pen)) (sym (c .in-Fill .is)))

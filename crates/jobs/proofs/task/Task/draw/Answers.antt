@@ -2,13 +2,14 @@ use Prim.Native.Nat.{ℕ, _≤_}
 use mathlib.Core.Bool.{Bool, cond}
 use mathlib.Core.Path.{_≡_, sym, ap, _∙_}
 use native.Mathlib.Omega.{arith}
+use Rattle.planes.specs.Answer.{instead}
 use Rattle.std.specs.declared.result.Result.{Result}
 use Rattle.std.specs.declared.result.Result.the-variants.{Err}
 use Rattle.planes.specs.declared.refusal.Refusal.{Refusal}
 use Rattle.planes.specs.declared.refusal.Refusal.the-variants.{WordUnderWay}
 use Rattle.planes.proofs.Charts.{chart-height}
 use Rattle.board.specs.State.{State, stateOf}
-use Rattle.drawing.specs.Figures.{Area, ruled, done}
+use Rattle.drawing.specs.Figures.{Area, ruled}
 use Rattle.drawing.specs.Given.{area}
 use Rattle.drawing.specs.Fills.{filled}
 use Rattle.jobs.specs.declared.task.Task.{Task}
@@ -28,7 +29,7 @@ returns-in-Fill g c =
     ap (λ (b : Bool). cond b (Err WordUnderWay) (ruled h (area (c .place .result)))) (c .pre .idle)
     ∙ ap (ruled h) (c .place .ensures)
     ∙ clip h (c .args .pen .origin) (area (c .in-Fill .frame)) low in
-    let told = c .fill .ensures .told ∙ ap done ruling in
+    let told = c .fill .ensures .told ∙ ap (instead tt) ruling in
     record {
       told = told ∙ ap (taskRuling h (c .args .pen)) (sym (c .in-Fill .is));
       shown =
