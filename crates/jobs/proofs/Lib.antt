@@ -3,3 +3,4 @@ pub mod Walk
 pub mod Draws
 pub mod Ran
 pub mod Reading
+pub mod Judging

@@ -7,8 +7,9 @@ ghost use Rattle.std.specs.Results.{isOk};
 ghost use Rattle.board.specs.State.{stateOf, busy};
 ghost use Rattle.drawing.specs.Spending.{Spent, Left};
 ghost use Rattle.jobs.specs.Faults.{start};
-ghost use Rattle.jobs.specs.Format.{Apart};
+ghost use Rattle.jobs.specs.Format.{Apart, parsed};
 ghost use Rattle.jobs.specs.Runs.{judgedFrom, carriedFrom, runAnswer, runChart};
+ghost use Rattle.jobs.specs.Verdicts.{Judges};
 use board::Board;
 pub use fault::Fault;
 pub use fault::Spot;
@@ -78,6 +79,7 @@ pub fn run<P: Plane>(board: &mut Board<P>, job: &[u8], pen: &mut Pen) -> Result<
     ensures left { λ r. ⌜ Left r (stateOf height stitch (now (board .entry)) .regs) (stateOf height stitch (now (board .exit)) .regs) ⌝ }
     ensures pen { λ _. ⌜ now (pen .exit) ≡ now (pen .entry) ⌝ }
     ensures format { λ _. ⌜ Apart (now (job .entry)) ⌝ }
+    ensures first { λ _. ⌜ Judges (stateOf height stitch (now (board .entry)) .shown .height) (now (pen .entry)) (parsed 0 (now (job .entry))) (judgedFrom (stateOf height stitch (now (board .entry)) .shown .height) (now (pen .entry)) start (now (job .entry))) ⌝ }
     ensures rest { λ _. ⌜ rest (now (board .exit) .plane) ≡ rest (now (board .entry) .plane) ⌝ }
 {
     let saved = *pen;

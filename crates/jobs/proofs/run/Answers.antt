@@ -18,14 +18,21 @@ use Rattle.jobs.specs.declared.pen.Pen.{Pen}
 use Rattle.jobs.specs.Faults.{start}
 use Rattle.jobs.specs.Runs.{judgedFrom, carriedFrom, runAnswer, ranTo}
 use Rattle.jobs.proofs.Ran.{ready-idle, answer-is, ran-ok, left-ok}
+use Rattle.jobs.proofs.Judging.{judges}
 use Rattle.jobs.proofs.Reading.{apart}
 use Rattle.jobs.proofs.run.Needs as need
 
 pub returns-in-Break-blame : need.returns-in-Break-blame
-returns-in-Break-blame g c = let format = apart (c .args .job .now) (λ i. c .typed .job i .fits) in search needs
+returns-in-Break-blame g c =
+    let format = apart (c .args .job .now) (λ i. c .typed .job i .fits) in
+    let first = judges (stateOf (g .P·Plane .height) (g .P·Plane .stitch) (c .args .board .now) .shown .height) (c .args .pen .now) (c .args .job .now) in
+    search needs
 
 pub returns-then-job-gt65535 : need.returns-then-job-gt65535
-returns-then-job-gt65535 g c = let format = apart (c .args .job .now) (λ i. c .typed .job i .fits) in search needs
+returns-then-job-gt65535 g c =
+    let format = apart (c .args .job .now) (λ i. c .typed .job i .fits) in
+    let first = judges (stateOf (g .P·Plane .height) (g .P·Plane .stitch) (c .args .board .now) .shown .height) (c .args .pen .now) (c .args .job .now) in
+    search needs
 
 pub returns-in-Break-check : need.returns-in-Break-check
 returns-in-Break-check g c =
@@ -44,7 +51,8 @@ returns-in-Break-check g c =
       shown = ap (λ (s : State). s .shown) same ∙ ap (λ (r : Result ℕ Fault). ranTo r pen job (was .shown)) answer;
       left = subst (λ (r : Result ℕ Fault). Left r (was .regs) (stateOf (g .P·Plane .height) (g .P·Plane .stitch) (c .height-height .last .self) .regs)) (sym res) (ap (λ (s : State). s .regs) same);
       pen = c .drop-guard-in-Break-check .ensures;
-      format = apart (c .args .job .now) (λ i. c .typed .job i .fits);
+      format = apart job (λ i. c .typed .job i .fits);
+      first = judges (was .shown .height) pen job;
       rest = c .height-height .ensures .rest;
     }
 
@@ -69,6 +77,7 @@ returns g c =
       shown = c .carry-out .ensures .shown ∙ ap (λ (s : State). carriedFrom pen job (s .shown)) same ∙ sym (ran-ok (runAnswer was pen job) pen job (was .shown) ok);
       left = left-ok (c .carry-out .result) (was .regs) (end .regs) (ap (isOk {E = Fault}) answer ∙ ok) spent;
       pen = c .drop-guard-2 .ensures;
-      format = apart (c .args .job .now) (λ i. c .typed .job i .fits);
+      format = apart job (λ i. c .typed .job i .fits);
+      first = judges (was .shown .height) pen job;
       rest = c .carry-out .ensures .rest ∙ c .height-height .ensures .rest;
     }
