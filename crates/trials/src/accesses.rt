@@ -73,15 +73,26 @@ fn reads_stay_one_behind() -> Result<(), Fail> {
     let source = address(Axis::Across, 0, Choice::Source, false);
     check_eq(board.peek(source), Ok(0))?;
     check_eq(board.peek(source), Ok(0xF0F0))?;
-    check_eq(
-        board.peek(address(Axis::Across, 2, Choice::Source, false)),
-        Ok(0xF0F0),
-    )?;
-    check_eq(
-        board.peek(address(Axis::Across, 5, Choice::Mask, false)),
-        Ok(0xC3C3),
-    )?;
+    let from_two = address(Axis::Across, 2, Choice::Source, false);
+    check_eq(board.peek(from_two), Ok(0xF0F0))?;
+    let from_five = address(Axis::Across, 5, Choice::Source, false);
+    check_eq(board.peek(from_five), Ok(0xC3C3))?;
+    let mask = address(Axis::Across, 5, Choice::Mask, false);
+    check_eq(board.peek(mask), Ok(0x1E1E))?;
     check_eq(board.registers().mask, 0xF0F0)
+}
+
+#[test]
+fn a_code_may_keep_the_stitch() -> Result<(), Fail> {
+    let mut bytes = [0x6Cu8; 128];
+    let mut board = Board::new(Flat::new(&mut bytes), 0);
+    let function = address(Axis::Across, 0, Choice::Control, false);
+    check_eq(board.poke(function, 0xEE), Ok(()))?;
+    let update = address(Axis::Across, 5, Choice::Nothing, true);
+    check_eq(board.poke(update, 0), Ok(()))?;
+    let source = address(Axis::Across, 0, Choice::Source, false);
+    check_eq(board.peek(source), Ok(0))?;
+    check_eq(board.peek(source), Ok(0x6C6C))
 }
 
 #[test]

@@ -34,6 +34,14 @@ fn two_beds_of_uneven_length() -> Result<(), Fail> {
 }
 
 #[test]
+fn the_shorter_bed_counts() -> Result<(), Fail> {
+    let mut front = [0u8; 100];
+    let mut back = [0u8; 64];
+    let mut plane = TwoBed::new(&mut front, &mut back);
+    check_eq(plane.courses(), 1)
+}
+
+#[test]
 fn flat_with_bytes_past_the_last_course() -> Result<(), Fail> {
     let mut bytes = [0x11u8; 300];
     let mut plane = Flat::new(&mut bytes);

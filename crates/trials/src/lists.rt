@@ -78,5 +78,9 @@ fn one_after_the_other(rt: LibcRuntime) -> Result<(), Fail> {
     let ran = &steps[3];
     check(matches!(ran.answer, Answer::Ran(1)))?;
     let refused = &steps[4];
-    check(matches!(refused.answer, Answer::Faulty(_)))
+    let Answer::Faulty(fault) = refused.answer else {
+        return Err(Fail::new("no fault"));
+    };
+    check_eq(fault.refusal.number(), 1)?;
+    check_eq(fault.spot.place, 0)
 }

@@ -92,14 +92,19 @@ fn a_refused_job_draws_nothing() -> Result<(), Fail> {
     let mut bytes = [0u8; 256];
     let mut held = pen();
     let mut board = Board::new(Flat::new(&mut bytes), 0);
-    let job = b"C\0\x01\xFFF\0\x08\0\0\0\0\0\x10\0\x02Z\0\0";
+    let job = b"C\0\x01\xFFK\0\x02\0\0O\0\x04\0\0\0\0F\0\x08\0\0\0\0\0\x10\0\x02Z\0\0";
+    held.origin.x = Needle(16);
     check_eq(
         run(&mut board, job, &mut held),
-        fault(Refusal::UnknownTag, 15, 2),
+        fault(Refusal::UnknownTag, 27, 4),
     )?;
     check_eq(held.brush.code, 0xCC)?;
-    check_eq(run(&mut board, &job[0..15], &mut held), Ok(2))?;
+    check_eq(held.brush.mask, 0xFFFF)?;
+    check_eq(held.origin.x.0, 16)?;
+    check_eq(run(&mut board, &job[0..27], &mut held), Ok(4))?;
     check_eq(held.brush.code, 0xCC)?;
+    check_eq(held.brush.mask, 0xFFFF)?;
+    check_eq(held.origin.x.0, 16)?;
     let plane = board.into_plane();
     drop(plane);
     check_eq(bytes[0], 0xFF)?;
