@@ -1,16 +1,16 @@
 -- The stitches that a write updates, as parts of two words.
 -- Assumes nothing.
-use Prim.Native.Nat.{ℕ, _+_, _-_, _*_, _/_, _%_, _^_, _<_, _≤_}
-use mathlib.Core.Path.{_≡_, refl, sym, ap, ap₂, _∙_}
-use mathlib.Core.Bool.{Bool, true, false, cond, _&&_, _||_}
+use Prim.Native.Nat.{ℕ, _+_, _-_, _/_, _%_, _<_, _≤_}
+use mathlib.Core.Path.{_≡_, sym, ap, ap₂, _∙_}
+use mathlib.Core.Bool.{Bool, true, _&&_, _||_}
 use mathlib.Core.Logic.{inl, inr}
 use native.Mathlib.Omega.{arith}
-use lib.Dec.{eqb, ltb, leb}
-use Rattle.std.proofs.shelf.Tests.{and-parts, and-left, and-right, leb-true, ltb-true, le-leb, lt-ltb, le-ltb, cases-lt}
+use lib.Dec.{ltb, leb}
+use Rattle.std.proofs.shelf.Tests.{le-leb, lt-ltb, le-ltb, cases-lt}
 use Rattle.std.proofs.shelf.Ways.{tells}
 use Rattle.words.specs.Bit.{bit, across, placed}
 use Rattle.words.proofs.Whole.{across-left, across-right}
-use Rattle.planes.specs.Chart.{Chart, within, inWord}
+use Rattle.planes.specs.Chart.{Chart, inWord}
 use Rattle.planes.specs.Drawn.{drawn, masked, reach, laid, picked}
 use Rattle.planes.proofs.Drawings.{drawn-same, drawn-more}
 

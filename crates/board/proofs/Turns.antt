@@ -1,10 +1,10 @@
 -- One access, from what each part of it did.
 -- Assumes nothing.
 use Prim.Native.Nat.{ℕ}
-use mathlib.Core.Path.{_≡_, refl, sym, ap, _∙_}
-use mathlib.Core.Bool.{Bool, true, false, cond}
+use mathlib.Core.Path.{_≡_, sym, ap, _∙_}
+use mathlib.Core.Bool.{true, false, cond}
 use Rattle.std.specs.declared.result.Result.{Result}
-use Rattle.std.specs.declared.result.Result.the-variants.{Ok, Err}
+use Rattle.std.specs.declared.result.Result.the-variants.{Ok}
 use Rattle.planes.specs.declared.refusal.Refusal.{Refusal}
 use Rattle.registers.specs.declared.access.Access.{Access}
 use Rattle.registers.specs.declared.access.Choice.{Choice}

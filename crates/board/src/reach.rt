@@ -1,6 +1,6 @@
 // Sixteen stitches at a time, through the plane's words: each word that holds one of them is read once and, for an update, written once; no word off the plane is asked for.
 ghost use mathlib.Core.Path.{_≡_};
-ghost use Prim.Native.Nat.{ℕ, _*_};
+ghost use Prim.Native.Nat.{_*_};
 ghost use Rattle.planes.specs.Chart.{chartOf, window};
 ghost use Rattle.planes.specs.Drawn.{drawn, picked, masked};
 ghost use Rattle.registers.specs.Codes.{pairNumber};

@@ -1,20 +1,19 @@
 -- The picture, mark by mark and line by line.
 -- Assumes nothing.
-use Prim.Native.Nat.{ℕ, zero, suc, _+_, _-_, _*_, _/_, _%_, _<_, _≤_, min}
-use mathlib.Core.Bool.{Bool, true, false, cond, _&&_}
-use mathlib.Core.List.{List, [], _∷_, _++_, append-assoc, append-nil}
+use Prim.Native.Nat.{ℕ, zero, suc, _+_, _-_, _*_, _/_, _%_, _≤_}
+use mathlib.Core.Bool.{Bool, true, false, cond}
+use mathlib.Core.List.{List, [], _∷_, _++_, append-assoc}
 use mathlib.Core.Path.{_≡_, refl, sym, ap, ap₂, _∙_}
 use native.Mathlib.Nat.{zero-add}
 use native.Mathlib.Numerals.{add-one}
 use native.Mathlib.Omega.{arith}
 use lib.Dec.{eqb}
 use lib.ListN.{length, getD, replicate, length-replicate}
-use Rattle.std.specs.Results.{isOk}
 use Rattle.words.specs.Bit.{bit}
 use Rattle.words.proofs.Bits.{bit-none}
 use Rattle.planes.specs.Chart.{Chart, chart, window}
 use Rattle.planes.specs.BedLayout.{bedHeight, bedOn}
-use Rattle.planes.proofs.Charts.{window-bit, chart-path}
+use Rattle.planes.proofs.Charts.{window-bit}
 use Rattle.charting.specs.Picture.{markOf, needles, picture}
 use Rattle.charting.specs.Rows.{marks, rowOf}
 

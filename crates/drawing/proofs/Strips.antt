@@ -1,11 +1,11 @@
 -- A fill, access by access.
 -- Assumes nothing.
 use Prim.Native.Nat.{ℕ, _+_, _-_, _*_, _/_, _%_, _<_, _≤_, min}
-use mathlib.Core.Path.{_≡_, refl, sym, ap, ap₂, subst, _∙_}
-use mathlib.Core.Bool.{Bool, true, false, cond, _&&_, _||_}
+use mathlib.Core.Path.{_≡_, refl, sym, ap, _∙_}
+use mathlib.Core.Bool.{Bool, true, false, cond, _||_}
 use mathlib.Core.Logic.{_≢_}
 use native.Mathlib.Omega.{arith}
-use lib.Dec.{eqb, ltb, leb}
+use lib.Dec.{eqb}
 use Rattle.std.proofs.shelf.Tests.{ne-eqb, cond-false}
 use Rattle.std.proofs.shelf.Ways.{tells}
 use Rattle.std.specs.Options.{isSome}
@@ -16,7 +16,7 @@ use Rattle.planes.specs.Answer.{instead}
 use Rattle.planes.specs.declared.refusal.Refusal.{Refusal}
 use Rattle.planes.specs.declared.refusal.Refusal.the-variants.{WordUnderWay}
 use Rattle.words.proofs.Bits.{bit-ones}
-use Rattle.planes.specs.Chart.{Chart, within}
+use Rattle.planes.specs.Chart.{Chart}
 use Rattle.planes.specs.Drawn.{drawn, reach, laid}
 use Rattle.planes.proofs.Drawings.{drawn-none, drawn-same, drawn-more}
 use Rattle.registers.specs.declared.access.Access.{Access}

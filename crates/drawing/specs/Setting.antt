@@ -1,9 +1,8 @@
 -- The steps of a fill: registers that are set, and strips that are drawn. Only private functions cite these.
 use Prim.Native.Nat.{ℕ, _+_, _-_, _*_, min}
-use mathlib.Core.Bool.{Bool, false}
+use mathlib.Core.Bool.{false}
 use mathlib.Core.Path.{_≡_}
 use Rattle.planes.specs.Drawn.{drawn}
-use Rattle.registers.specs.State.{Regs}
 use Rattle.board.specs.State.{State, busy}
 use Rattle.drawing.specs.Figures.{Area, inside, allOn}
 use Rattle.drawing.specs.Spending.{Spent}

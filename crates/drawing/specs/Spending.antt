@@ -3,7 +3,6 @@ use Prim.Native.Nat.{ℕ, _<_}
 use mathlib.Core.Path.{_≡_}
 use Rattle.std.specs.declared.result.Result.{Result}
 use Rattle.std.specs.declared.result.Result.the-variants.{Ok, Err}
-use Rattle.planes.specs.declared.refusal.Refusal.{Refusal}
 use Rattle.registers.specs.State.{Regs}
 
 -- function, width, source, mask and pair 3 may be anything; all else stays

@@ -1,17 +1,14 @@
 -- Places that sixteen bits cannot hold are off every chart.
 -- Assumes nothing.
 use Prim.Native.Nat.{ℕ, _+_, _<_, _≤_, min}
-use mathlib.Core.Bool.{Bool, true, false, cond, _||_}
-use mathlib.Core.Path.{_≡_, refl, sym, ap, _∙_}
+use mathlib.Core.Bool.{Bool, true, false, _||_}
+use mathlib.Core.Path.{_≡_, refl, sym, _∙_}
 use mathlib.Core.Logic.{inl, inr}
 use native.Mathlib.Omega.{arith}
-use lib.Dec.{ltb, leb}
 use Rattle.std.proofs.shelf.Tests.{cases-lt, lt-ltb, le-leb}
-use Rattle.std.specs.declared.result.Result.{Result}
-use Rattle.std.specs.declared.result.Result.the-variants.{Ok, Err}
-use Rattle.planes.specs.declared.refusal.Refusal.{Refusal}
+use Rattle.std.specs.declared.result.Result.the-variants.{Err}
 use Rattle.planes.specs.declared.refusal.Refusal.the-variants.{OffChart}
-use Rattle.drawing.specs.Figures.{Area, offChart, ruled}
+use Rattle.drawing.specs.Figures.{Area, ruled}
 use Rattle.jobs.specs.declared.pen.Origin.{Origin}
 use Rattle.jobs.specs.Tasks.{shifted}
 use Rattle.jobs.specs.Walking.{clipped}

@@ -1,10 +1,9 @@
 -- The first field that is refused gives the fault.
 -- Assumes nothing.
-use Prim.Native.Nat.{ℕ, _+_, _<_}
-use mathlib.Core.Bool.{true}
+use Prim.Native.Nat.{ℕ, _+_}
 use mathlib.Core.List.{List, [], _∷_, _++_}
 use mathlib.Core.Logic.{_⊎_, inl, inr, ⊎-elim}
-use mathlib.Core.Path.{_≡_, refl, sym, ap, subst, _∙_}
+use mathlib.Core.Path.{_≡_, refl, sym, ap, _∙_}
 use native.Mathlib.Omega.{arith}
 use lib.ListN.{length}
 use Rattle.std.proofs.shelf.Lists.{length-append}
@@ -13,16 +12,15 @@ use Rattle.std.specs.declared.result.Result.{Result}
 use Rattle.std.specs.declared.result.Result.the-variants.{Ok, Err}
 use Rattle.planes.specs.Answer.{instead}
 use Rattle.planes.specs.declared.refusal.Refusal.{Refusal}
-use Rattle.planes.specs.declared.refusal.Refusal.the-variants.{Truncated}
 use Rattle.jobs.specs.declared.fault.Fault.{Fault}
 use Rattle.jobs.specs.declared.fault.Spot.{Spot}
 use Rattle.jobs.specs.declared.pen.Pen.{Pen}
 use Rattle.jobs.specs.declared.task.Task.{Task}
 use Rattle.jobs.specs.Format.{Field, Parsed, bytesOf, parsed}
-use Rattle.jobs.specs.Faults.{start, past, fault}
+use Rattle.jobs.specs.Faults.{start, past}
 use Rattle.jobs.specs.Tasks.{decoded, penAfter, taskRuling}
 use Rattle.jobs.specs.Runs.{ruledTask, verdict, next, judged, judgedFrom}
-use Rattle.jobs.specs.Verdicts.{penBy, penThrough, Passing, Refused, CutShort, FirstBad, AllPass, Judges}
+use Rattle.jobs.specs.Verdicts.{penBy, penThrough, Passing, Refused, CutShort, Judges}
 
 -- the same from a spot on
 record BadFrom (height : ℕ) (p : Pen) (s : Spot) (q : Parsed) (f : Fault) : Type 0 where

@@ -3,16 +3,15 @@
 use Prim.Native.Nat.{ℕ, _≤_}
 use mathlib.Core.Bool.{Bool, true, false, cond}
 use mathlib.Core.List.{List}
-use mathlib.Core.Path.{_≡_, refl, sym, ap, _∙_}
+use mathlib.Core.Path.{_≡_, refl, ap, _∙_}
 use native.Mathlib.Omega.{arith}
-use lib.Dec.{ltb}
 use lib.ListN.{length}
 use Rattle.std.proofs.shelf.Tests.{le-ltb, false≢true}
 use Rattle.std.specs.Results.{isOk}
 use Rattle.std.specs.declared.result.Result.{Result}
 use Rattle.std.specs.declared.result.Result.the-variants.{Ok, Err}
 use Rattle.planes.specs.declared.refusal.Refusal.{Refusal}
-use Rattle.planes.specs.declared.refusal.Refusal.the-variants.{WordUnderWay, JobTooLong}
+use Rattle.planes.specs.declared.refusal.Refusal.the-variants.{WordUnderWay}
 use Rattle.planes.specs.Chart.{Chart}
 use Rattle.registers.specs.State.{Regs}
 use Rattle.board.specs.State.{State, busy, free}
@@ -20,8 +19,8 @@ use Rattle.drawing.specs.Spending.{Spent, Left}
 use Rattle.jobs.specs.declared.fault.Fault.{Fault}
 use Rattle.jobs.specs.declared.fault.Spot.{Spot}
 use Rattle.jobs.specs.declared.pen.Pen.{Pen}
-use Rattle.jobs.specs.Faults.{start, fault, blamed}
-use Rattle.jobs.specs.Runs.{judgedFrom, carriedFrom, runAnswer, ranTo, runChart}
+use Rattle.jobs.specs.Faults.{start, blamed}
+use Rattle.jobs.specs.Runs.{judgedFrom, carriedFrom, runAnswer, ranTo}
 
 -- a board that is ready has no word under way
 pub ready-idle : (s : State) (at : Spot) (r : Result (Unit {0}) Refusal) (v : Unit {0}) → r ≡ free s → Ok v ≡ blamed at r → busy s ≡ false

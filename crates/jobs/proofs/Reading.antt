@@ -10,7 +10,7 @@ use lib.ListN.{length, getD, take, drop}
 use Rattle.std.proofs.shelf.Lists.{length-take, length-append, take-append-drop, take-at, drop-at}
 use Rattle.std.proofs.shelf.Tests.{ltb-false, ltb-true, le-ltb}
 use Rattle.std.proofs.shelf.Ways.{tells}
-use Rattle.jobs.specs.Format.{Field, Parsed, Reads, Apart, payloadSize, cutOff, bytesOf, headed, stumped, parsed}
+use Rattle.jobs.specs.Format.{Field, Parsed, Apart, cutOff, bytesOf, headed, stumped, parsed}
 use Rattle.jobs.proofs.Walk.{skip, parsed-cut}
 
 abbrev Small : List ℕ → Type 0

@@ -1,15 +1,14 @@
 -- One field of a job, and what follows it.
 -- Assumes nothing.
 use Prim.Native.Nat.{ℕ, zero, suc, _+_, _-_, _*_, _<_, _≤_}
-use mathlib.Core.Bool.{Bool, true, false, cond, _||_}
+use mathlib.Core.Bool.{Bool, true, false, cond}
 use mathlib.Core.List.{List, [], _∷_}
 use mathlib.Core.Path.{_≡_, refl, sym, ap, ap₂, _∙_}
 use native.Mathlib.Omega.{arith}
-use lib.Dec.{ltb}
 use lib.ListN.{length, getD, take, drop}
 use Rattle.planes.specs.Answer.{instead}
 use Rattle.std.proofs.shelf.Lists.{length-take, length-drop, take-rest}
-use Rattle.std.proofs.shelf.Tests.{true≢false, le-ltb, lt-ltb, ltb-true}
+use Rattle.std.proofs.shelf.Tests.{true≢false, le-ltb, lt-ltb}
 use Rattle.std.proofs.shelf.Ways.{tells}
 use Rattle.std.specs.declared.result.Result.{Result}
 use Rattle.std.specs.declared.result.Result.the-variants.{Ok, Err}

@@ -1,6 +1,6 @@
 -- A whole job: which field is refused first, and what all of them draw.
 use Prim.Native.Nat.{ℕ, _+_}
-use mathlib.Core.Bool.{Bool, cond}
+use mathlib.Core.Bool.{cond}
 use mathlib.Core.List.{List, [], _∷_}
 use lib.Dec.{ltb}
 use lib.ListN.{length}
@@ -15,7 +15,7 @@ use Rattle.jobs.specs.declared.fault.Fault.{Fault}
 use Rattle.jobs.specs.declared.fault.Spot.{Spot}
 use Rattle.jobs.specs.declared.pen.Pen.{Pen}
 use Rattle.jobs.specs.declared.task.Task.{Task}
-use Rattle.jobs.specs.Format.{Field, Parsed, parsed}
+use Rattle.jobs.specs.Format.{Field, parsed}
 use Rattle.jobs.specs.Faults.{start, past, fault}
 use Rattle.jobs.specs.Tasks.{decoded, penAfter, taskRuling, carried}
 

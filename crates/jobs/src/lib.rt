@@ -1,8 +1,7 @@
 // Jobs: fields of bytes that set a pen and draw with it.
-ghost use mathlib.Core.Bool.{Bool, true, false};
+ghost use mathlib.Core.Bool.{true, false};
 ghost use mathlib.Core.Path.{_≡_};
-ghost use Prim.Native.Nat.{ℕ, _≤_};
-ghost use lib.ListN.{length};
+ghost use Prim.Native.Nat.{_≤_};
 ghost use Rattle.std.specs.Results.{isOk};
 ghost use Rattle.board.specs.State.{stateOf, busy};
 ghost use Rattle.drawing.specs.Spending.{Spent, Left};

@@ -1,6 +1,5 @@
 // The pen that a job draws with, and the guard that gives it back.
 ghost use mathlib.Core.Path.{_≡_};
-ghost use Prim.Native.Nat.{_+_, min};
 ghost use Rattle.drawing.specs.Given.{area};
 ghost use Rattle.jobs.specs.Tasks.{penAfter};
 ghost use Rattle.jobs.specs.Walking.{clipped};

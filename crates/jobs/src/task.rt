@@ -1,7 +1,7 @@
 // What one field of a job asks for.
-ghost use mathlib.Core.Bool.{Bool, false};
+ghost use mathlib.Core.Bool.{false};
 ghost use mathlib.Core.Path.{_≡_};
-ghost use Prim.Native.Nat.{ℕ, _+_, _*_, _≤_};
+ghost use Prim.Native.Nat.{_+_, _*_, _≤_};
 ghost use Rattle.board.specs.State.{stateOf, busy};
 ghost use Rattle.drawing.specs.Spending.{Left};
 ghost use Rattle.jobs.specs.Tasks.{decoded, taskRuling};

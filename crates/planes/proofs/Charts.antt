@@ -1,18 +1,17 @@
 -- Laws of charts.
 -- Assumes nothing.
-use Prim.Native.Nat.{ℕ, zero, suc, _+_, _-_, _*_, _/_, _%_, _^_, _<_, _≤_}
+use Prim.Native.Nat.{ℕ, _+_, _-_, _*_, _/_, _%_, _^_, _<_, _≤_}
 use mathlib.Core.Path.{_≡_, refl, sym, _∙_, ap, ap₂}
-use mathlib.Core.Bool.{Bool, true, false, not, _&&_, cond}
+use mathlib.Core.Bool.{Bool, true, false, _&&_, cond}
 use mathlib.Core.Logic.{inl, inr}
 use native.Mathlib.Omega.{arith}
 use native.Mathlib.Nat.{add-assoc}
 use lib.Dec.{eqb, ltb}
 use Rattle.std.proofs.shelf.Tests.{true≢false, eqb-true, ltb-true, lt-ltb, le-ltb, and-parts, and-left, and-right, cases-lt, cases-eq, eq-eqb, ne-eqb}
-use Rattle.std.proofs.shelf.Ways.{tells}
 use Rattle.std.specs.declared.result.Result.{Result}
 use Rattle.std.specs.declared.result.Result.the-variants.{Ok, Err}
-use Rattle.words.specs.Bit.{bit, pack, across}
-use Rattle.words.proofs.Bits.{bit-pack, pack-lt, pack-from-bits, pack-same, bit-none}
+use Rattle.words.specs.Bit.{bit, across}
+use Rattle.words.proofs.Bits.{bit-pack, pack-lt, pack-from-bits, bit-none}
 use Rattle.words.proofs.Whole.{across-left, across-right}
 use Rattle.planes.specs.declared.refusal.Refusal.{Refusal}
 use Rattle.planes.specs.declared.refusal.Refusal.the-variants.{OffPlane}

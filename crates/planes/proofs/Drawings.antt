@@ -1,20 +1,19 @@
 -- Drawings of regions, piece by piece.
 -- Assumes nothing.
-use Prim.Native.Nat.{ℕ, zero, suc, _+_, _-_, _*_, _/_, _%_, _^_, _<_, _≤_}
+use Prim.Native.Nat.{ℕ, _+_, _-_, _*_, _/_, _%_, _<_, _≤_}
 use mathlib.Core.Path.{_≡_, refl, sym, ap, ap₂, _∙_}
 use mathlib.Core.Bool.{Bool, true, false, cond, _&&_, _||_}
-use mathlib.Core.Logic.{inl, inr}
 use native.Mathlib.Omega.{arith}
-use lib.Dec.{eqb, ltb, leb}
-use Rattle.std.proofs.shelf.Tests.{and-parts, eqb-true, ltb-true, true≢false, cases-lt}
+use lib.Dec.{eqb, ltb}
+use Rattle.std.proofs.shelf.Tests.{and-parts, eqb-true, ltb-true, true≢false}
 use Rattle.std.proofs.shelf.Ways.{tells}
-use Rattle.std.specs.declared.result.Result.the-variants.{Ok, Err}
-use Rattle.words.specs.Bit.{bit, index}
+use Rattle.std.specs.declared.result.Result.the-variants.{Err}
+use Rattle.words.specs.Bit.{bit}
 use Rattle.planes.specs.declared.refusal.Refusal.{Refusal}
 use Rattle.planes.specs.Answer.{answer}
-use Rattle.planes.specs.Chart.{Chart, chart, within, window, onPlane, written, inWord}
-use Rattle.planes.specs.Drawn.{chosen, masked, drawn, reach, laid, picked}
-use Rattle.planes.proofs.Charts.{chart-path, chart-height, window-bit, on-from, err-tells}
+use Rattle.planes.specs.Chart.{Chart, chart, within, onPlane, written, inWord}
+use Rattle.planes.specs.Drawn.{chosen, masked, drawn, reach, picked}
+use Rattle.planes.proofs.Charts.{chart-path, chart-height, on-from, err-tells}
 
 -- ---- at one stitch: w is whether it lies on the plane, k what the code makes of a stitch
 stitch-more : (w r p q : Bool) (k : Bool → Bool) (d : Bool) →

@@ -1,8 +1,8 @@
 // A plane in two lent buffers, as a machine has two beds: even needles in front, odd ones behind.
 ghost use denote.Ref.{name, now};
-ghost use mathlib.Core.List.{List, [], _∷_};
+ghost use mathlib.Core.List.{[], _∷_};
 ghost use mathlib.Core.Path.{_≡_};
-ghost use Prim.Native.Nat.{ℕ, _/_, min};
+ghost use Prim.Native.Nat.{_/_, min};
 ghost use Rattle.planes.specs.BedLayout.{bedTall, bedHeight, bedOn, bedSpare};
 use crate::Course;
 use crate::Plane;

@@ -1,7 +1,7 @@
 -- What the address of an access asks for.
 -- Assumes nothing.
 use Prim.Native.Nat.{ℕ, _+_, _*_, _/_, _%_, _<_, _≤_}
-use mathlib.Core.Path.{_≡_, refl, sym, ap, ap₂, _∙_}
+use mathlib.Core.Path.{_≡_, refl, sym, ap, _∙_}
 use mathlib.Core.Bool.{Bool, true, false, cond}
 use native.Mathlib.Omega.{arith}
 use lib.Dec.{eqb, ltb}
@@ -17,7 +17,6 @@ use Rattle.registers.specs.declared.access.Pair.the-variants.{Zero, One, Two, 
 use Rattle.registers.specs.declared.cursor.Axis.{Axis}
 use Rattle.registers.specs.declared.cursor.Axis.the-variants.{Across, Down}
 use Rattle.registers.specs.Codes.{pairNumber}
-use Rattle.registers.specs.State.{Regs}
 use Rattle.registers.specs.Accesses.{accessOf, addressOf, pairBy, choiceBy, axisNumber, choiceNumber, unitOf, Asks}
 
 -- each part by its number, and how large that is

@@ -8,7 +8,7 @@ use native.Mathlib.Omega.{arith}
 use lib.Bits.{bitAnd, and-lt}
 use lib.Dec.{ltb}
 use Rattle.std.proofs.shelf.Tests.{cases-lt}
-use Rattle.words.specs.Bit.{bit, pack, across}
+use Rattle.words.specs.Bit.{bit, across}
 use Rattle.words.proofs.Bits.{bit-and, pack-from-bits}
 use Rattle.words.proofs.Whole.{across-left, across-right}
 use Rattle.registers.specs.State.{Regs}

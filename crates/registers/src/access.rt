@@ -1,7 +1,7 @@
 // What an address asks for: a coordinate of a pair, a register, and whether stitches are updated.
 ghost use mathlib.Core.Bool.{cond};
 ghost use mathlib.Core.Path.{_≡_};
-ghost use Prim.Native.Nat.{ℕ, _<_};
+ghost use Prim.Native.Nat.{_<_};
 ghost use Rattle.registers.specs.Codes.{pairNumber};
 ghost use Rattle.registers.specs.Accesses.{accessOf, addressOf, axisNumber, choiceNumber, Asks};
 use crate::cursor::Axis;

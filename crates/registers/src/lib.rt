@@ -1,7 +1,6 @@
 // The registers of a board.
-ghost use mathlib.Core.Bool.{Bool, true, false};
+ghost use mathlib.Core.Bool.{false};
 ghost use mathlib.Core.Path.{_≡_};
-ghost use Prim.Native.Nat.{ℕ};
 ghost use Rattle.registers.specs.Codes.{pairNumber};
 ghost use Rattle.registers.specs.State.{plain, fresh, with-flags};
 ghost use Rattle.registers.specs.Accesses.{admitted, pointed, entered, loaded, answered, retraced, interrupted};

@@ -3,7 +3,7 @@
 use Prim.Native.Nat.{ℕ, _/_, _%_}
 use mathlib.Core.Bool.{Bool, true, false, cond}
 use mathlib.Core.List.{List}
-use mathlib.Core.Path.{_≡_, refl, sym, ap, _∙_}
+use mathlib.Core.Path.{_≡_, refl, ap, _∙_}
 use lib.Dec.{eqb, ltb}
 use Rattle.planes.specs.Answer.{instead}
 use Rattle.std.proofs.shelf.Tests.{cond-false}
@@ -13,7 +13,6 @@ use Rattle.std.specs.declared.result.Result.{Result}
 use Rattle.std.specs.declared.result.Result.the-variants.{Ok, Err}
 use Rattle.planes.specs.declared.refusal.Refusal.{Refusal}
 use Rattle.planes.specs.declared.refusal.Refusal.the-variants.{BadAddress, OtherUnit, WordUnderWay}
-use Rattle.planes.specs.Chart.{Chart}
 use Rattle.registers.specs.declared.access.Access.{Access}
 use Rattle.registers.specs.declared.access.Choice.{Choice}
 use Rattle.registers.specs.declared.access.Choice.the-variants.{Nothing, Control, Source, Mask}
@@ -25,10 +24,9 @@ use Rattle.board.specs.State.{busy}
 use Rattle.board.specs.Steps.{after, poking, poked, loading, peeking, peeked, stitchesAt}
 use Rattle.drawing.specs.Figures.{Area, ruled}
 use Rattle.drawing.specs.Fills.{fillRuling, filled}
-use Rattle.drawing.specs.Spending.{Spent, Left}
+use Rattle.drawing.specs.Spending.{Left}
 use Rattle.drawing.specs.Setting.{Ready}
 use Rattle.drawing.proofs.Strips.{poking-ready}
-use Rattle.rule.specs.declared.Answer.{Answer}
 use Rattle.jobs.specs.declared.fault.Fault.{Fault}
 use Rattle.jobs.specs.declared.pen.Pen.{Pen}
 use Rattle.jobs.specs.Faults.{start, fault}

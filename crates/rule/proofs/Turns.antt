@@ -1,6 +1,6 @@
 -- One turn of a list of steps: the step at i is done, and those past it are still to do.
 -- Assumes nothing.
-use mathlib.Core.Path.{_≡_, refl, sym, ap, ap₂, subst, _∙_}
+use mathlib.Core.Path.{_≡_, sym, ap, ap₂, subst, _∙_}
 use mathlib.Core.List.{List, [], _∷_, _++_, map, append-assoc, append-nil}
 use Prim.Native.Nat.{ℕ, _+_, _<_, _≤_}
 use native.Mathlib.Omega.{arith}
@@ -8,7 +8,7 @@ use lib.ListN.{length, getD, set, take, drop}
 use Rattle.std.proofs.shelf.Lists.{drop-more, drop-set-lt, drop-all, take-more-set, take-all, map-push, map-set, set-getD, getD-map}
 use Rattle.rule.specs.declared.Step.{Step}
 use Rattle.rule.specs.Rule.{State, Asked, Told, Clear, AllClear, ruling, next, final, outcomes}
-use Rattle.rule.specs.Calls.{asked, question, told}
+use Rattle.rule.specs.Calls.{question, told}
 
 module _ (s : State) (steps : List Step) (i : ℕ) (d k : Step) (lt : i < length steps) (same : question k ≡ question (getD steps i d)) where
   rest : drop (i + 1) (set steps i k) ≡ drop (i + 1) steps

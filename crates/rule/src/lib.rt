@@ -1,8 +1,7 @@
 // Lists of calls on a new board, held to the stitch rule.
-ghost use mathlib.Core.Bool.{Bool, false};
-ghost use mathlib.Core.List.{List, map};
+ghost use mathlib.Core.Bool.{false};
+ghost use mathlib.Core.List.{map};
 ghost use mathlib.Core.Path.{_≡_};
-ghost use Prim.Native.Nat.{ℕ, _%_};
 ghost use Rattle.planes.specs.Chart.{chartOf};
 ghost use Rattle.board.specs.State.{stateOf, busy};
 ghost use Rattle.rule.specs.Calls.{asked, question, told, ruleOf};

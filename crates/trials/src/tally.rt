@@ -1,5 +1,4 @@
 // A plane that counts what is asked of the plane below it.
-ghost use denote.Ref.{now};
 use planes::Course;
 use planes::Plane;
 use planes::Refusal;

@@ -5,13 +5,13 @@ use mathlib.Core.Bool.{Bool, true, false, cond, not, _&&_, _||_, xor}
 use mathlib.Core.Path.{_≡_, refl, sym, ap, ap₂, _∙_}
 use mathlib.Core.Logic.{inl, inr}
 use native.Mathlib.Omega.{arith}
-use lib.Dec.{eqb, leb, ltb}
+use lib.Dec.{eqb, ltb}
 use lib.Bits.{bitAnd, bitOr, bitXor, and-mask}
 use lib.Pow.{shr-le}
 use Rattle.std.proofs.shelf.Ways.{tells}
 use Rattle.std.proofs.shelf.Tests.{lt-ltb, le-ltb, le-leb, lt-leb, cond-true, cond-false, cases-lt}
 use Rattle.words.specs.Bit.{bit, across, index, placed}
-use Rattle.words.proofs.Bits.{bit-ones, bit-above, bit-not, bit-shr, bit-shl-low, bit-shl-high, bit-mod-low, bit-and, bit-or, bit-xor, bit-full, or-false}
+use Rattle.words.proofs.Bits.{bit-above, bit-not, bit-shr, bit-shl-low, bit-shl-high, bit-mod-low, bit-and, bit-or, bit-xor, bit-full, or-false}
 
 pub across-left : (l r i : ℕ) → i < 16 → across l r i ≡ bit l (15 - i)
 unfolding across

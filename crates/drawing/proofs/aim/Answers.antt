@@ -1,9 +1,9 @@
 use Prim.Native.Nat.{ℕ}
-use mathlib.Core.Path.{_≡_, sym, subst, _∙_}
+use mathlib.Core.Path.{sym, subst, _∙_}
 use Rattle.board.specs.State.{State, stateOf}
 use Rattle.board.specs.Steps.{poking}
 use Rattle.drawing.specs.Setting.{Aimed}
-use Rattle.drawing.proofs.Strips.{setting, aimed}
+use Rattle.drawing.proofs.Strips.{aimed}
 use Rattle.drawing.proofs.aim.Needs as need
 
 pub returns : need.returns

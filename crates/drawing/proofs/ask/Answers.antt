@@ -1,7 +1,5 @@
-use mathlib.Core.Path.{_≡_, sym, subst, _∙_}
-use Rattle.registers.specs.Accesses.{admitted}
+use mathlib.Core.Path.{sym, subst, _∙_}
 use Rattle.board.specs.State.{State, stateOf}
-use Rattle.board.specs.Steps.{poking}
 use Rattle.drawing.specs.Setting.{Ready}
 use Rattle.drawing.proofs.Strips.{ask-told, ask-step, poking-ready}
 use Rattle.drawing.proofs.ask.Needs as need

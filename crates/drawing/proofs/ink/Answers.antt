@@ -1,12 +1,10 @@
-use Prim.Native.Nat.{ℕ, _<_}
-use mathlib.Core.Path.{_≡_, sym, ap, subst, _∙_}
+use Prim.Native.Nat.{ℕ}
+use mathlib.Core.Path.{sym, subst, _∙_}
 use native.Mathlib.Omega.{arith}
-use Rattle.registers.specs.declared.access.Access.{Access}
-use Rattle.registers.specs.declared.access.Choice.the-variants.{Control, Mask}
 use Rattle.board.specs.State.{State, stateOf}
 use Rattle.board.specs.Steps.{poking}
 use Rattle.drawing.specs.Setting.{Inked}
-use Rattle.drawing.proofs.Strips.{setting, inked}
+use Rattle.drawing.proofs.Strips.{inked}
 use Rattle.drawing.proofs.ink.Needs as need
 
 pub returns : need.returns

@@ -1,14 +1,14 @@
-use Prim.Native.Nat.{ℕ, _+_, _-_, _<_, _≤_}
-use mathlib.Core.Bool.{Bool, true}
+use Prim.Native.Nat.{ℕ, _-_, _<_, _≤_}
+use mathlib.Core.Bool.{true}
 use mathlib.Core.List.{List}
 use mathlib.Core.Path.{_≡_, sym, ap, subst, _∙_}
 use native.Mathlib.Omega.{arith}
 use borrow.Author.Needs.{needs}
-use lib.ListN.{length, drop, length-drop}
+use lib.ListN.{length, length-drop}
 use Rattle.std.proofs.shelf.Tests.{false≢true}
 use Rattle.std.specs.Results.{isOk}
 use Rattle.std.specs.declared.result.Result.{Result}
-use Rattle.std.specs.declared.result.Result.the-variants.{Ok, Err}
+use Rattle.std.specs.declared.result.Result.the-variants.{Ok}
 use Rattle.planes.specs.declared.refusal.Refusal.{Refusal}
 use Rattle.planes.specs.Chart.{Chart}
 use Rattle.board.specs.State.{State, stateOf}
@@ -17,8 +17,7 @@ use Rattle.drawing.proofs.Strips.{spent-more}
 use Rattle.jobs.specs.declared.fault.Fault.{Fault}
 use Rattle.jobs.specs.declared.pen.Pen.{Pen}
 use Rattle.jobs.specs.declared.task.Task.{Task}
-use Rattle.jobs.specs.Faults.{past, start, fault}
-use Rattle.jobs.specs.Tasks.{carried}
+use Rattle.jobs.specs.Faults.{past}
 use Rattle.jobs.specs.Walking.{examined, performed}
 use Rattle.jobs.specs.Runs.{judgedFrom, carriedFrom}
 use Rattle.jobs.proofs.Draws.{carried-height}

@@ -1,8 +1,7 @@
 use Prim.Native.Nat.{ℕ}
 use mathlib.Core.List.{List}
-use mathlib.Core.Path.{_≡_, refl, sym, ap, subst, _∙_}
+use mathlib.Core.Path.{sym, ap, subst, _∙_}
 use Rattle.std.specs.Of.Vec.{vec-items}
-use Rattle.registers.specs.State.{plain}
 use Rattle.registers.specs.Accesses.{answered}
 use Rattle.board.specs.State as board
 use Rattle.board.specs.State.{stateOf, busy}

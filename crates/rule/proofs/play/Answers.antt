@@ -1,10 +1,9 @@
 use Prim.Native.Nat.{ℕ, _<_, _≤_}
-use mathlib.Core.Bool.{false}
 use mathlib.Core.List.{List, map}
 use mathlib.Core.Path.{_≡_, refl, ap, _∙_}
 use native.Mathlib.Omega.{arith}
 use lib.ListN.{length, getD}
-use Rattle.planes.specs.Chart.{Chart, chartOf}
+use Rattle.planes.specs.Chart.{chartOf}
 use Rattle.board.specs.State as board
 use Rattle.board.specs.State.{stateOf, busy}
 use Rattle.rule.specs.declared.Step.{Step}

@@ -1,5 +1,4 @@
-use Prim.Native.Nat.{ℕ}
-use mathlib.Core.Path.{_≡_, refl, ap, _∙_}
+use mathlib.Core.Path.{refl, ap, _∙_}
 use Rattle.planes.specs.Chart.{window}
 use Rattle.registers.specs.declared.access.Choice.the-variants.{Nothing, Control}
 use Rattle.registers.specs.declared.cursor.Cursor.{Cursor}

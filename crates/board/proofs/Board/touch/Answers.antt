@@ -1,15 +1,13 @@
-use Prim.Native.Nat.{ℕ, _+_, _-_, _*_, _%_, _<_}
-use mathlib.Core.Bool.{Bool, false, _&&_}
-use mathlib.Core.Path.{_≡_, refl, sym, ap, _∙_}
+use Prim.Native.Nat.{ℕ, _-_, _*_, _%_, _<_}
+use mathlib.Core.Path.{refl, sym, ap, _∙_}
 use native.Mathlib.Omega.{arith}
 use Rattle.std.proofs.shelf.Tests.{and-right}
 use Rattle.words.specs.Bit.{bit}
 use Rattle.words.proofs.Bits.{bit-none}
-use Rattle.planes.specs.Chart.{Chart, chartOf, window, written, inWord}
-use Rattle.planes.specs.Drawn.{drawn, picked, masked}
+use Rattle.planes.specs.Chart.{written, inWord}
+use Rattle.planes.specs.Drawn.{picked, masked}
 use Rattle.planes.proofs.Charts.{read-window, window-bit, on-wide}
 use Rattle.planes.proofs.Drawings.{written-drawn, refused-drawn, off-drawn, drawn-none}
-use Rattle.registers.specs.State.{Regs, plain}
 use Rattle.board.specs.State.{State, stateOf}
 use Rattle.board.proofs.Board.touch.Needs as need
 

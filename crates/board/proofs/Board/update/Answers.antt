@@ -1,8 +1,8 @@
-use Prim.Native.Nat.{ℕ, _+_, _/_, _%_, _<_, _≤_}
-use mathlib.Core.Path.{_≡_, refl, sym, ap, _∙_}
+use Prim.Native.Nat.{ℕ, _+_, _/_}
+use mathlib.Core.Path.{_≡_, ap, _∙_}
 use native.Mathlib.Omega.{arith}
 use lib.Dec.{ltb}
-use Rattle.planes.specs.Chart.{Chart, chartOf}
+use Rattle.planes.specs.Chart.{Chart}
 use Rattle.planes.specs.Drawn.{drawn, picked, masked, reach, laid}
 use Rattle.planes.proofs.Drawings.{high-drawn}
 use Rattle.registers.specs.declared.cursor.Cursor.{Cursor}

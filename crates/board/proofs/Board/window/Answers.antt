@@ -1,7 +1,7 @@
-use Prim.Native.Nat.{ℕ, _+_, _*_, _/_, _%_, _<_, _≤_}
-use mathlib.Core.Path.{_≡_, refl, sym, ap, ap₂, _∙_}
+use Prim.Native.Nat.{ℕ, _+_, _*_, _/_, _%_}
+use mathlib.Core.Path.{_≡_, ap, _∙_}
 use native.Mathlib.Omega.{arith}
-use Rattle.planes.specs.Chart.{Chart, chartOf, window}
+use Rattle.planes.specs.Chart.{window}
 use Rattle.planes.proofs.Charts.{window-high, window-two}
 use Rattle.registers.specs.State.{plain}
 use Rattle.board.specs.State.{State, stateOf}

@@ -1,8 +1,7 @@
 use borrow.Author.Needs.{needs}
-use Prim.Native.Nat.{ℕ, _-_, _<_}
-use mathlib.Core.Path.{_≡_, ap, _∙_}
+use Prim.Native.Nat.{_-_}
+use mathlib.Core.Path.{ap, _∙_}
 use lib.Dec.{ltb}
-use Rattle.words.specs.Bit.{bit}
 use Rattle.registers.specs.State.{plain}
 use Rattle.registers.proofs.Words.{answer-is}
 use Rattle.registers.proofs.Registers.answer.Needs as need

@@ -1,5 +1,5 @@
 use Prim.Native.Nat.{ℕ}
-use mathlib.Core.Path.{_≡_, sym, ap, _∙_}
+use mathlib.Core.Path.{sym, ap, _∙_}
 use Rattle.registers.specs.declared.access.Choice.{Choice}
 use Rattle.registers.specs.declared.cursor.Cursor.{Cursor}
 use Rattle.registers.specs.State.{Regs, plain, with-mask}

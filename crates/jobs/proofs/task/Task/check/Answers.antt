@@ -1,13 +1,10 @@
-use Prim.Native.Nat.{ℕ, _≤_, min}
+use Prim.Native.Nat.{min}
 use mathlib.Core.Path.{_≡_, sym, ap, _∙_}
 use native.Mathlib.Omega.{arith}
 use Rattle.planes.specs.Answer.{instead}
 use Rattle.std.proofs.shelf.Results.{err-from-errBy}
-use Rattle.std.specs.declared.result.Result.{Result}
-use Rattle.planes.specs.declared.refusal.Refusal.{Refusal}
-use Rattle.drawing.specs.Figures.{Area, ruled}
+use Rattle.drawing.specs.Figures.{ruled}
 use Rattle.drawing.specs.Given.{area}
-use Rattle.jobs.specs.declared.task.Task.{Task}
 use Rattle.jobs.specs.Tasks.{taskRuling}
 use Rattle.jobs.proofs.Clips.{clip}
 use Rattle.jobs.proofs.task.Task.check.Needs as need

@@ -1,6 +1,6 @@
 use Prim.Native.Nat.{ℕ, _≤_}
 use mathlib.Core.Bool.{Bool, cond}
-use mathlib.Core.Path.{_≡_, sym, ap, _∙_}
+use mathlib.Core.Path.{sym, ap, _∙_}
 use native.Mathlib.Omega.{arith}
 use Rattle.planes.specs.Answer.{instead}
 use Rattle.std.specs.declared.result.Result.{Result}
@@ -12,8 +12,6 @@ use Rattle.board.specs.State.{State, stateOf}
 use Rattle.drawing.specs.Figures.{Area, ruled}
 use Rattle.drawing.specs.Given.{area}
 use Rattle.drawing.specs.Fills.{filled}
-use Rattle.jobs.specs.declared.task.Task.{Task}
-use Rattle.jobs.specs.declared.task.Task.the-variants.{Fill}
 use Rattle.jobs.specs.Tasks.{taskRuling}
 use Rattle.jobs.specs.Walking.{drawnBy}
 use Rattle.jobs.proofs.Clips.{clip}
