@@ -22,6 +22,9 @@ pub mod fault;
 pub mod pen;
 pub mod task;
 
+// How many bytes a job may have.
+const LONGEST: usize = 65535;
+
 // Checks every field from the first, and counts them.
 fn check(job: &[u8], pen: &mut Pen, height: u16) -> Result<usize, Fault>
     requires low { ⌜ height ≤ 1024 ⌝ }
@@ -88,7 +91,7 @@ pub fn run<P: Plane>(board: &mut Board<P>, job: &[u8], pen: &mut Pen) -> Result<
         before: 0,
     };
     spot.blame(board.ready())?;
-    if job.len() > 65535 {
+    if job.len() > LONGEST {
         return spot.blame(Err(Refusal::JobTooLong));
     }
     let height = board.height();

@@ -27,8 +27,8 @@ returns-in-Break-blame g c =
     let first = judges (stateOf (g .P·Plane .height) (g .P·Plane .stitch) (c .args .board .now) .shown .height) (c .args .pen .now) (c .args .job .now) in
     search needs
 
-pub returns-then-job-gt65535 : need.returns-then-job-gt65535
-returns-then-job-gt65535 g c =
+pub returns-then-job-gt-LONGEST : need.returns-then-job-gt-LONGEST
+returns-then-job-gt-LONGEST g c =
     let format = apart (c .args .job .now) (λ i. c .typed .job i .fits) in
     let first = judges (stateOf (g .P·Plane .height) (g .P·Plane .stitch) (c .args .board .now) .shown .height) (c .args .pen .now) (c .args .job .now) in
     search needs
