@@ -1,4 +1,6 @@
 // A board: a plane, and the registers that work on it.
+#![tactic(auto)]
+
 ghost use Rattle.std.specs.Prelude.{◌≡◌, true, is_err};
 ghost use Rattle.planes.specs.Answer.{instead};
 ghost use Rattle.planes.specs.Chart.{chart_of};
@@ -25,7 +27,7 @@ pub struct Board<P> {
 impl<P: Plane> Board<P> {
     // A new board on a plane, which it does not change; its unit is the low three bits of the number.
     pub fn new(plane: P, number: u8) -> Board<P>
-        ensures made { state_of height stitch result ≡ fresh_board number (chart_of height stitch plane) }
+        ensures made { state_of P.height P.stitch result ≡ fresh_board number (chart_of P.height P.stitch plane) }
         ensures plane { result.plane ≡ plane }
     {
         Board {
@@ -47,7 +49,7 @@ impl<P: Plane> Board<P> {
 
     // Whether the board takes accesses: a refusal while a word is under way.
     pub fn ready(&self) -> Result<(), Refusal>
-        ensures { result ≡ free (state_of height stitch self.now) }
+        ensures { result ≡ free (state_of P.height P.stitch self.now) }
     {
         if self.registers.ahead.is_some() {
             return Err(Refusal::WordUnderWay);
@@ -59,9 +61,9 @@ impl<P: Plane> Board<P> {
     // Stitches off the plane are left out.
     pub fn poke(&mut self, address: u32, value: u16) -> Result<(), Refusal>
         ensures told { result ≡ instead tt (admitted address (plain self.old.registers)) }
-        ensures step { state_of height stitch self.new ≡ poked address value (state_of height stitch self.old) }
+        ensures step { state_of P.height P.stitch self.new ≡ poked address value (state_of P.height P.stitch self.old) }
         ensures refused { is_err result ≡ true → self.new.plane ≡ self.old.plane }
-        ensures rest { rest self.new.plane ≡ rest self.old.plane }
+        ensures rest { P.rest self.new.plane ≡ P.rest self.old.plane }
     {
         let access = self.registers.admit(address)?;
         self.registers.point(access);
@@ -76,9 +78,9 @@ impl<P: Plane> Board<P> {
     // Stitches off the plane are off.
     pub fn peek(&mut self, address: u32) -> Result<u16, Refusal>
         ensures told { result ≡ instead (answered (plain self.old.registers)) (admitted address (plain self.old.registers)) }
-        ensures step { state_of height stitch self.new ≡ peeked address (state_of height stitch self.old) }
+        ensures step { state_of P.height P.stitch self.new ≡ peeked address (state_of P.height P.stitch self.old) }
         ensures refused { is_err result ≡ true → self.new.plane ≡ self.old.plane }
-        ensures rest { rest self.new.plane ≡ rest self.old.plane }
+        ensures rest { P.rest self.new.plane ≡ P.rest self.old.plane }
     {
         let access = self.registers.admit(address)?;
         let answer = self.registers.answer();
@@ -89,7 +91,7 @@ impl<P: Plane> Board<P> {
 
     // The bus's INIT line.
     pub fn init(&mut self)
-        ensures step { state_of height stitch self.new ≡ initiated (state_of height stitch self.old) }
+        ensures step { state_of P.height P.stitch self.new ≡ initiated (state_of P.height P.stitch self.old) }
         ensures plane { self.new.plane ≡ self.old.plane }
     {
         self.registers.init();
@@ -97,7 +99,7 @@ impl<P: Plane> Board<P> {
 
     // The monitor's vertical retrace.
     pub fn retrace(&mut self)
-        ensures step { state_of height stitch self.new ≡ retraced_board (state_of height stitch self.old) }
+        ensures step { state_of P.height P.stitch self.new ≡ retraced_board (state_of P.height P.stitch self.old) }
         ensures plane { self.new.plane ≡ self.old.plane }
     {
         self.registers.retrace();
@@ -105,7 +107,7 @@ impl<P: Plane> Board<P> {
 
     // The level of the interrupt that the board raises, if it raises one.
     pub fn interrupt(&self) -> Option<u8>
-        ensures { result ≡ interrupted (state_of height stitch self.now).regs }
+        ensures { result ≡ interrupted (state_of P.height P.stitch self.now).regs }
     {
         self.registers.interrupt()
     }

@@ -14,9 +14,9 @@ use registers::{Access, Choice, Cursor, Pair};
 impl<P: Plane> Board<P> {
     // A word of a course of the plane, with nothing on where the plane ends.
     pub(crate) fn fetch(&mut self, word: WordNumber, course: Course) -> u16
-        ensures told { result ≡ window (chart_of height stitch self.old.plane) (16 * word.0) course.0 }
-        ensures same { state_of height stitch self.new ≡ state_of height stitch self.old }
-        ensures rest { rest self.new.plane ≡ rest self.old.plane }
+        ensures told { result ≡ window (chart_of P.height P.stitch self.old.plane) (16 * word.0) course.0 }
+        ensures same { state_of P.height P.stitch self.new ≡ state_of P.height P.stitch self.old }
+        ensures rest { P.rest self.new.plane ≡ P.rest self.old.plane }
     {
         if word.0 > 63 {
             return 0;
@@ -29,9 +29,9 @@ impl<P: Plane> Board<P> {
 
     // The sixteen stitches from a place on.
     pub(crate) fn window(&mut self, at: Cursor) -> u16
-        ensures told { result ≡ window (chart_of height stitch self.old.plane) at.x.0 at.y.0 }
-        ensures same { state_of height stitch self.new ≡ state_of height stitch self.old }
-        ensures rest { rest self.new.plane ≡ rest self.old.plane }
+        ensures told { result ≡ window (chart_of P.height P.stitch self.old.plane) at.x.0 at.y.0 }
+        ensures same { state_of P.height P.stitch self.new ≡ state_of P.height P.stitch self.old }
+        ensures rest { P.rest self.new.plane ≡ P.rest self.old.plane }
     {
         if at.y.0 >= self.plane.courses() {
             return 0;
@@ -46,8 +46,8 @@ impl<P: Plane> Board<P> {
 
     // Loads the register that a read chose with the sixteen stitches at its pair.
     pub(crate) fn load(&mut self, access: Access)
-        ensures step { state_of height stitch self.new ≡ loading access (state_of height stitch self.old) }
-        ensures rest { rest self.new.plane ≡ rest self.old.plane }
+        ensures step { state_of P.height P.stitch self.new ≡ loading access (state_of P.height P.stitch self.old) }
+        ensures rest { P.rest self.new.plane ≡ P.rest self.old.plane }
     {
         match access.choice {
             Choice::Nothing => self.registers.load(access, 0),
@@ -62,8 +62,8 @@ impl<P: Plane> Board<P> {
 
     // Updates the stitches of one word where `here` has ones.
     fn touch(&mut self, word: WordNumber, course: Course, here: u16, source: u16)
-        ensures step { state_of height stitch self.new ≡ record { shown = drawn (picked word.0 course.0 here) (plain self.old.registers).function (plain self.old.registers).mask (λ u v. masked source u) (chart_of height stitch self.old.plane); regs = plain self.old.registers } }
-        ensures rest { rest self.new.plane ≡ rest self.old.plane }
+        ensures step { state_of P.height P.stitch self.new ≡ record { shown = drawn (picked word.0 course.0 here) (plain self.old.registers).function (plain self.old.registers).mask (λ u v. masked source u) (chart_of P.height P.stitch self.old.plane); regs = plain self.old.registers } }
+        ensures rest { P.rest self.new.plane ≡ P.rest self.old.plane }
     {
         if here == 0 {
             return;
@@ -80,8 +80,8 @@ impl<P: Plane> Board<P> {
 
     // Updates the stitches at a pair.
     pub(crate) fn update(&mut self, pair: Pair)
-        ensures step { state_of height stitch self.new ≡ record { shown = updated (pair_number pair) (plain self.old.registers) (chart_of height stitch self.old.plane); regs = plain self.old.registers } }
-        ensures rest { rest self.new.plane ≡ rest self.old.plane }
+        ensures step { state_of P.height P.stitch self.new ≡ record { shown = updated (pair_number pair) (plain self.old.registers) (chart_of P.height P.stitch self.old.plane); regs = plain self.old.registers } }
+        ensures rest { P.rest self.new.plane ≡ P.rest self.old.plane }
     {
         let at = self.registers.cursor(pair);
         if at.y.0 >= self.plane.courses() {

@@ -17,9 +17,9 @@ pub struct Slip {
 impl<P: Plane> Board<P> {
     // Reads sixteen stitches ahead and hands out a slip for them. Until a slip is presented to it, the board takes no access.
     pub fn begin(&mut self, at: Cursor) -> Result<Slip, Refusal>
-        ensures told { instead tt result ≡ begin_ruling at.x.0 at.y.0 (state_of height stitch self.old) }
-        ensures step { state_of height stitch self.new ≡ begun at.x.0 at.y.0 (state_of height stitch self.old) }
-        ensures rest { rest self.new.plane ≡ rest self.old.plane }
+        ensures told { instead tt result ≡ begin_ruling at.x.0 at.y.0 (state_of P.height P.stitch self.old) }
+        ensures step { state_of P.height P.stitch self.new ≡ begun at.x.0 at.y.0 (state_of P.height P.stitch self.old) }
+        ensures rest { P.rest self.new.plane ≡ P.rest self.old.plane }
     {
         self.ready()?;
         if at.x.0 > 1023 {
@@ -36,7 +36,7 @@ impl<P: Plane> Board<P> {
     // The board's own word under way, whichever slip is presented. With none under way the slip comes back.
     pub fn collect(&mut self, slip: Slip) -> Result<u16, (Refusal, Slip)>
         ensures told { result ≡ redeemed (λ w. w) slip (plain self.old.registers).ahead }
-        ensures step { state_of height stitch self.new ≡ keeping None (state_of height stitch self.old) }
+        ensures step { state_of P.height P.stitch self.new ≡ keeping None (state_of P.height P.stitch self.old) }
         ensures plane { self.new.plane ≡ self.old.plane }
     {
         match self.registers.ahead {
@@ -52,7 +52,7 @@ impl<P: Plane> Board<P> {
     // Ends the word under way unread. With none under way the slip comes back.
     pub fn give_up(&mut self, slip: Slip) -> Result<(), (Refusal, Slip)>
         ensures told { result ≡ redeemed (λ _. tt) slip (plain self.old.registers).ahead }
-        ensures step { state_of height stitch self.new ≡ keeping None (state_of height stitch self.old) }
+        ensures step { state_of P.height P.stitch self.new ≡ keeping None (state_of P.height P.stitch self.old) }
         ensures plane { self.new.plane ≡ self.old.plane }
     {
         self.collect(slip)?;

@@ -10,17 +10,17 @@ use registers::Registers;
 impl<P: Plane> Board<P> {
     // The registers as they stand.
     pub fn registers(&self) -> Registers
-        ensures { plain result ≡ (state_of height stitch self.now).regs }
+        ensures { plain result ≡ (state_of P.height P.stitch self.now).regs }
     {
         self.registers
     }
 
     // The number of the plane's courses.
     pub fn height(&mut self) -> u16
-        ensures told { result ≡ (state_of height stitch self.old).shown.height }
+        ensures told { result ≡ (state_of P.height P.stitch self.old).shown.height }
         ensures low { result ≤ 1024 }
-        ensures same { state_of height stitch self.new ≡ state_of height stitch self.old }
-        ensures rest { rest self.new.plane ≡ rest self.old.plane }
+        ensures same { state_of P.height P.stitch self.new ≡ state_of P.height P.stitch self.old }
+        ensures rest { P.rest self.new.plane ≡ P.rest self.old.plane }
     {
         self.plane.courses()
     }

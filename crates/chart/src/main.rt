@@ -1,4 +1,6 @@
 // Reads a job from standard input, and prints how it went and a picture of what it drew.
+#![tactic(auto)]
+
 use std::io::{Read, Write};
 
 fn main(rt: HostRuntime) -> anyhow::Result<()> {

@@ -1,4 +1,6 @@
 // A job in, a picture out.
+#![tactic(auto)]
+
 ghost use Rattle.std.specs.Prelude.{◌≡◌, ◌-◌, ◌<◌, ◌++◌, IfOk, string_bytes, OnOk};
 ghost use Rattle.words.specs.Bit.{bit};
 ghost use Rattle.planes.specs.Chart.{chart_of, window};
@@ -71,8 +73,8 @@ fn push_row(text: &mut String, word: u16) -> Result<(), AllocError>
 
 // The first sixteen stitches of a course, with nothing on where the plane ends.
 fn first_word<P: Plane>(plane: &mut P, course: Course) -> u16
-    ensures told { result ≡ window (chart_of height stitch plane.old) 0 course.0 }
-    ensures same { chart_of height stitch plane.new ≡ chart_of height stitch plane.old }
+    ensures told { result ≡ window (chart_of P.height P.stitch plane.old) 0 course.0 }
+    ensures same { chart_of P.height P.stitch plane.new ≡ chart_of P.height P.stitch plane.old }
 {
     match plane.read(WordNumber(0), course) {
         Ok(word) => word,
@@ -82,7 +84,7 @@ fn first_word<P: Plane>(plane: &mut P, course: Course) -> u16
 
 // Adds the picture: needles 0 to 15 of courses 0 to 7.
 fn push_picture<P: Plane>(text: &mut String, plane: &mut P) -> Result<(), AllocError>
-    ensures { OnOk result (string_bytes text.new ≡ string_bytes text.old ++ picture 8 (chart_of height stitch plane.old)) }
+    ensures { OnOk result (string_bytes text.new ≡ string_bytes text.old ++ picture 8 (chart_of P.height P.stitch plane.old)) }
 {
     for y in 0..8u16 {
         let word = first_word(plane, Course(y));
@@ -93,7 +95,7 @@ fn push_picture<P: Plane>(text: &mut String, plane: &mut P) -> Result<(), AllocE
 
 // Runs a job on a plane, and tells how it went and what the plane then shows.
 fn report_on<P: Plane>(heap: Global, plane: &mut P, job: &[u8]) -> Result<String, AllocError>
-    ensures { IfOk result (λ s. string_bytes s ≡ report (chart_of height stitch plane.old) job.now) }
+    ensures { IfOk result (λ s. string_bytes s ≡ report (chart_of P.height P.stitch plane.old) job.now) }
 {
     let mut board = Board::new(plane, 0);
     let mut pen = start_pen();

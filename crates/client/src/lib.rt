@@ -1,4 +1,6 @@
 // Readers of single words: a word is begun, and a slip presented to collect it.
+#![tactic(auto)]
+
 ghost use Rattle.std.specs.Prelude.{◌≡◌};
 ghost use Rattle.planes.specs.Answer.{instead};
 ghost use Rattle.planes.specs.Chart.{window};
@@ -12,9 +14,9 @@ use registers::Cursor;
 
 // The sixteen stitches from a place on. The board is then as it was.
 pub fn word_at<P: Plane>(board: &mut Board<P>, at: Cursor) -> Result<u16, Refusal>
-    ensures told { result ≡ instead (window (state_of height stitch board.old).shown at.x.0 at.y.0) (begin_ruling at.x.0 at.y.0 (state_of height stitch board.old)) }
-    ensures same { state_of height stitch board.new ≡ state_of height stitch board.old }
-    ensures rest { rest board.new.plane ≡ rest board.old.plane }
+    ensures told { result ≡ instead (window (state_of P.height P.stitch board.old).shown at.x.0 at.y.0) (begin_ruling at.x.0 at.y.0 (state_of P.height P.stitch board.old)) }
+    ensures same { state_of P.height P.stitch board.new ≡ state_of P.height P.stitch board.old }
+    ensures rest { P.rest board.new.plane ≡ P.rest board.old.plane }
 {
     let slip = board.begin(at)?;
     match board.collect(slip) {

@@ -1,4 +1,6 @@
 // Drawings on a board, through its public calls alone.
+#![tactic(auto)]
+
 ghost use Rattle.std.specs.Prelude.{◌≡◌, ◌*◌, ◌<◌, ◌≤◌, false, Ok};
 ghost use Rattle.planes.specs.Answer.{instead};
 ghost use Rattle.board.specs.State.{state_of, busy};
@@ -32,11 +34,11 @@ fn ask<P: Plane>(
     value: u16,
 ) -> Result<(), Refusal>
     requires near { access.place < 1024 }
-    requires ready { Ready unit.number (state_of height stitch board.old) }
+    requires ready { Ready unit.number (state_of P.height P.stitch board.old) }
     ensures done { result ≡ Ok tt }
-    ensures step { state_of height stitch board.new ≡ poking value access (state_of height stitch board.old) }
-    ensures ready { Ready unit.number (state_of height stitch board.new) }
-    ensures rest { rest board.new.plane ≡ rest board.old.plane }
+    ensures step { state_of P.height P.stitch board.new ≡ poking value access (state_of P.height P.stitch board.old) }
+    ensures ready { Ready unit.number (state_of P.height P.stitch board.new) }
+    ensures rest { P.rest board.new.plane ≡ P.rest board.old.plane }
 {
     board.poke(access.address(unit), value)
 }
@@ -56,11 +58,11 @@ fn control(place: u16, choice: Choice) -> Access
 
 // Sets function and mask.
 fn ink<P: Plane>(board: &mut Board<P>, unit: Unit, brush: Brush) -> Result<(), Refusal>
-    requires ready { Ready unit.number (state_of height stitch board.old) }
+    requires ready { Ready unit.number (state_of P.height P.stitch board.old) }
     ensures done { result ≡ Ok tt }
-    ensures inked { Inked brush.code brush.mask (state_of height stitch board.old) (state_of height stitch board.new) }
-    ensures ready { Ready unit.number (state_of height stitch board.new) }
-    ensures rest { rest board.new.plane ≡ rest board.old.plane }
+    ensures inked { Inked brush.code brush.mask (state_of P.height P.stitch board.old) (state_of P.height P.stitch board.new) }
+    ensures ready { Ready unit.number (state_of P.height P.stitch board.new) }
+    ensures rest { P.rest board.new.plane ≡ P.rest board.old.plane }
 {
     ask(
         board,
@@ -76,11 +78,11 @@ fn aim<P: Plane>(board: &mut Board<P>, unit: Unit, x: u16, width: u16) -> Result
     requires near { x < 1024 }
     requires some { 1 ≤ width }
     requires narrow { width ≤ 16 }
-    requires ready { Ready unit.number (state_of height stitch board.old) }
+    requires ready { Ready unit.number (state_of P.height P.stitch board.old) }
     ensures done { result ≡ Ok tt }
-    ensures aimed { Aimed x width (state_of height stitch board.old) (state_of height stitch board.new) }
-    ensures ready { Ready unit.number (state_of height stitch board.new) }
-    ensures rest { rest board.new.plane ≡ rest board.old.plane }
+    ensures aimed { Aimed x width (state_of P.height P.stitch board.old) (state_of P.height P.stitch board.new) }
+    ensures ready { Ready unit.number (state_of P.height P.stitch board.new) }
+    ensures rest { P.rest board.new.plane ≡ P.rest board.old.plane }
 {
     ask(board, unit, control(1, Choice::Control), width)?;
     ask(board, unit, control(x, Choice::Nothing), 0)
@@ -89,11 +91,11 @@ fn aim<P: Plane>(board: &mut Board<P>, unit: Unit, x: u16, width: u16) -> Result
 // Fills strip k of a rectangle, which is sixteen needles wide but for the last: one access for each course, after two that set width and needle.
 fn fill_strip<P: Plane>(board: &mut Board<P>, unit: Unit, rect: Rect, k: u16) -> Result<(), Refusal>
     requires there { 16 * k < rect.w }
-    requires ready { Ready unit.number (state_of height stitch board.old) }
+    requires ready { Ready unit.number (state_of P.height P.stitch board.old) }
     ensures done { result ≡ Ok tt }
-    ensures drew { Drew (strip (covers rect) k) (state_of height stitch board.old) (state_of height stitch board.new) }
-    ensures ready { Ready unit.number (state_of height stitch board.new) }
-    ensures rest { rest board.new.plane ≡ rest board.old.plane }
+    ensures drew { Drew (strip (covers rect) k) (state_of P.height P.stitch board.old) (state_of P.height P.stitch board.new) }
+    ensures ready { Ready unit.number (state_of P.height P.stitch board.new) }
+    ensures rest { P.rest board.new.plane ≡ P.rest board.old.plane }
 {
     let width = (rect.w - 16 * k).min(16);
     aim(board, unit, rect.x.0 + 16 * k, width)?;
@@ -112,11 +114,11 @@ fn fill_strip<P: Plane>(board: &mut Board<P>, unit: Unit, rect: Rect, k: u16) ->
 
 // Fills a rectangle, strip by strip.
 fn fill_rect<P: Plane>(board: &mut Board<P>, rect: Rect, brush: Brush) -> Result<(), Refusal>
-    requires idle { busy (state_of height stitch board.old) ≡ false }
+    requires idle { busy (state_of P.height P.stitch board.old) ≡ false }
     ensures done { result ≡ Ok tt }
-    ensures shown { (state_of height stitch board.new).shown ≡ filled (Ok (covers rect)) brush.code brush.mask (state_of height stitch board.old).shown }
-    ensures spent { Spent (state_of height stitch board.old).regs (state_of height stitch board.new).regs }
-    ensures rest { rest board.new.plane ≡ rest board.old.plane }
+    ensures shown { (state_of P.height P.stitch board.new).shown ≡ filled (Ok (covers rect)) brush.code brush.mask (state_of P.height P.stitch board.old).shown }
+    ensures spent { Spent (state_of P.height P.stitch board.old).regs (state_of P.height P.stitch board.new).regs }
+    ensures rest { P.rest board.new.plane ≡ P.rest board.old.plane }
 {
     let unit = board.registers().unit;
     ink(board, unit, brush)?;
@@ -128,10 +130,10 @@ fn fill_rect<P: Plane>(board: &mut Board<P>, rect: Rect, brush: Brush) -> Result
 
 // Fills a rectangle: each of its stitches takes the bit of the code that its mask bit, a source bit of 1 and itself choose.
 pub fn fill<P: Plane>(board: &mut Board<P>, frame: Frame, brush: Brush) -> Result<(), Refusal>
-    ensures told { result ≡ instead tt (fill_ruling (state_of height stitch board.old) (area frame)) }
-    ensures shown { (state_of height stitch board.new).shown ≡ filled (fill_ruling (state_of height stitch board.old) (area frame)) brush.code brush.mask (state_of height stitch board.old).shown }
-    ensures left { Left result (state_of height stitch board.old).regs (state_of height stitch board.new).regs }
-    ensures rest { rest board.new.plane ≡ rest board.old.plane }
+    ensures told { result ≡ instead tt (fill_ruling (state_of P.height P.stitch board.old) (area frame)) }
+    ensures shown { (state_of P.height P.stitch board.new).shown ≡ filled (fill_ruling (state_of P.height P.stitch board.old) (area frame)) brush.code brush.mask (state_of P.height P.stitch board.old).shown }
+    ensures left { Left result (state_of P.height P.stitch board.old).regs (state_of P.height P.stitch board.new).regs }
+    ensures rest { P.rest board.new.plane ≡ P.rest board.old.plane }
 {
     board.ready()?;
     let rect = frame.on(board.height())?;

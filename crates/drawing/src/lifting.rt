@@ -19,11 +19,11 @@ use registers::{Access, Axis, Choice, Pair, Unit};
 // A read of the source at a course; it answers what the source held before.
 fn look<P: Plane>(board: &mut Board<P>, unit: Unit, course: Course) -> Result<u16, Refusal>
     requires near { course.0 < 1024 }
-    requires ready { Ready unit.number (state_of height stitch board.old) }
-    ensures told { result ≡ Ok (answered (state_of height stitch board.old).regs) }
-    ensures step { state_of height stitch board.new ≡ peeking (record { place = course.0; axis = Axis.Down; pair = Pair.Three; choice = Choice.Source; update = false }) (state_of height stitch board.old) }
-    ensures ready { Ready unit.number (state_of height stitch board.new) }
-    ensures rest { rest board.new.plane ≡ rest board.old.plane }
+    requires ready { Ready unit.number (state_of P.height P.stitch board.old) }
+    ensures told { result ≡ Ok (answered (state_of P.height P.stitch board.old).regs) }
+    ensures step { state_of P.height P.stitch board.new ≡ peeking (record { place = course.0; axis = Axis.Down; pair = Pair.Three; choice = Choice.Source; update = false }) (state_of P.height P.stitch board.old) }
+    ensures ready { Ready unit.number (state_of P.height P.stitch board.new) }
+    ensures rest { P.rest board.new.plane ≡ P.rest board.old.plane }
 {
     let access = Access {
         place: course.0,
@@ -45,13 +45,13 @@ fn lift_strip<P: Plane>(
 ) -> Result<(), Refusal>
     requires there { 16 * k < rect.w }
     requires room { pattern_bytes (covers rect) ≤ length buffer.old }
-    requires ready { Ready unit.number (state_of height stitch board.old) }
+    requires ready { Ready unit.number (state_of P.height P.stitch board.old) }
     ensures done { result ≡ Ok tt }
-    ensures bytes { buffer.new ≡ overlaid (strip_bytes (row_words (covers rect)) k rect.h) (lifted_byte (state_of height stitch board.old).shown (covers rect)) buffer.old }
-    ensures shown { (state_of height stitch board.new).shown ≡ (state_of height stitch board.old).shown }
-    ensures spent { Spent (state_of height stitch board.old).regs (state_of height stitch board.new).regs }
-    ensures ready { Ready unit.number (state_of height stitch board.new) }
-    ensures rest { rest board.new.plane ≡ rest board.old.plane }
+    ensures bytes { buffer.new ≡ overlaid (strip_bytes (row_words (covers rect)) k rect.h) (lifted_byte (state_of P.height P.stitch board.old).shown (covers rect)) buffer.old }
+    ensures shown { (state_of P.height P.stitch board.new).shown ≡ (state_of P.height P.stitch board.old).shown }
+    ensures spent { Spent (state_of P.height P.stitch board.old).regs (state_of P.height P.stitch board.new).regs }
+    ensures ready { Ready unit.number (state_of P.height P.stitch board.new) }
+    ensures rest { P.rest board.new.plane ≡ P.rest board.old.plane }
 {
     let width = (rect.w - 16 * k).min(16);
     aim(board, unit, rect.x.0 + 16 * k, width)?;
@@ -71,13 +71,13 @@ fn lift_strip<P: Plane>(
 
 // Reads a rectangle, strip by strip.
 fn lift_rect<P: Plane>(board: &mut Board<P>, rect: Rect, buffer: &mut [u8]) -> Result<(), Refusal>
-    requires idle { busy (state_of height stitch board.old) ≡ false }
+    requires idle { busy (state_of P.height P.stitch board.old) ≡ false }
     requires room { pattern_bytes (covers rect) ≤ length buffer.old }
     ensures done { result ≡ Ok tt }
-    ensures bytes { buffer.new ≡ lifted (Ok (covers rect)) (state_of height stitch board.old).shown buffer.old }
-    ensures shown { (state_of height stitch board.new).shown ≡ (state_of height stitch board.old).shown }
-    ensures spent { Spent (state_of height stitch board.old).regs (state_of height stitch board.new).regs }
-    ensures rest { rest board.new.plane ≡ rest board.old.plane }
+    ensures bytes { buffer.new ≡ lifted (Ok (covers rect)) (state_of P.height P.stitch board.old).shown buffer.old }
+    ensures shown { (state_of P.height P.stitch board.new).shown ≡ (state_of P.height P.stitch board.old).shown }
+    ensures spent { Spent (state_of P.height P.stitch board.old).regs (state_of P.height P.stitch board.new).regs }
+    ensures rest { P.rest board.new.plane ≡ P.rest board.old.plane }
 {
     let unit = board.registers().unit;
     for k in 0..rect.row_words() {
@@ -89,12 +89,12 @@ fn lift_rect<P: Plane>(board: &mut Board<P>, rect: Rect, buffer: &mut [u8]) -> R
 // Writes the stitches of a rectangle into a buffer: rows of two bytes for each sixteen needles, the leftmost stitch in the highest bit, spare bits zero.
 // No stitch changes, and later bytes stay.
 pub fn lift<P: Plane>(board: &mut Board<P>, frame: Frame, buffer: &mut [u8]) -> Result<(), Refusal>
-    ensures told { result ≡ instead tt (lift_ruling (state_of height stitch board.old) (area frame) (length buffer.old)) }
-    ensures bytes { buffer.new ≡ lifted (lift_ruling (state_of height stitch board.old) (area frame) (length buffer.old)) (state_of height stitch board.old).shown buffer.old }
-    ensures rows { is_ok result ≡ true → Rows (state_of height stitch board.old).shown (area frame) buffer.new }
-    ensures shown { (state_of height stitch board.new).shown ≡ (state_of height stitch board.old).shown }
-    ensures left { Left result (state_of height stitch board.old).regs (state_of height stitch board.new).regs }
-    ensures rest { rest board.new.plane ≡ rest board.old.plane }
+    ensures told { result ≡ instead tt (lift_ruling (state_of P.height P.stitch board.old) (area frame) (length buffer.old)) }
+    ensures bytes { buffer.new ≡ lifted (lift_ruling (state_of P.height P.stitch board.old) (area frame) (length buffer.old)) (state_of P.height P.stitch board.old).shown buffer.old }
+    ensures rows { is_ok result ≡ true → Rows (state_of P.height P.stitch board.old).shown (area frame) buffer.new }
+    ensures shown { (state_of P.height P.stitch board.new).shown ≡ (state_of P.height P.stitch board.old).shown }
+    ensures left { Left result (state_of P.height P.stitch board.old).regs (state_of P.height P.stitch board.new).regs }
+    ensures rest { P.rest board.new.plane ≡ P.rest board.old.plane }
 {
     board.ready()?;
     let rect = frame.on(board.height())?;

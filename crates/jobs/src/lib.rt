@@ -1,4 +1,6 @@
 // Jobs: fields of bytes that set a pen and draw with it.
+#![tactic(auto)]
+
 ghost use Rattle.std.specs.Prelude.{◌≡◌, ◌≤◌, true, false, is_ok};
 ghost use Rattle.board.specs.State.{state_of, busy};
 ghost use Rattle.drawing.specs.Spending.{Spent, Left};
@@ -44,12 +46,12 @@ fn check(job: &[u8], pen: &mut Pen, height: u16) -> Result<usize, Fault>
 
 // Carries out every field from the first, and counts them.
 fn carry_out<P: Plane>(board: &mut Board<P>, job: &[u8], pen: &mut Pen) -> Result<usize, Fault>
-    requires idle { busy (state_of height stitch board.old) ≡ false }
-    requires sound { is_ok (judged_from (state_of height stitch board.old).shown.height pen.old start job.now) ≡ true }
-    ensures told { result ≡ judged_from (state_of height stitch board.old).shown.height pen.old start job.now }
-    ensures shown { (state_of height stitch board.new).shown ≡ carried_from pen.old job.now (state_of height stitch board.old).shown }
-    ensures spent { Spent (state_of height stitch board.old).regs (state_of height stitch board.new).regs }
-    ensures rest { rest board.new.plane ≡ rest board.old.plane }
+    requires idle { busy (state_of P.height P.stitch board.old) ≡ false }
+    requires sound { is_ok (judged_from (state_of P.height P.stitch board.old).shown.height pen.old start job.now) ≡ true }
+    ensures told { result ≡ judged_from (state_of P.height P.stitch board.old).shown.height pen.old start job.now }
+    ensures shown { (state_of P.height P.stitch board.new).shown ≡ carried_from pen.old job.now (state_of P.height P.stitch board.old).shown }
+    ensures spent { Spent (state_of P.height P.stitch board.old).regs (state_of P.height P.stitch board.new).regs }
+    ensures rest { P.rest board.new.plane ≡ P.rest board.old.plane }
 {
     let mut rest = job;
     let mut spot = Spot {
@@ -71,13 +73,13 @@ fn carry_out<P: Plane>(board: &mut Board<P>, job: &[u8], pen: &mut Pen) -> Resul
 // Runs a job: checks every field first, then carries all of them out, and answers how many there were.
 // However it ends, the pen is then as it was handed in.
 pub fn run<P: Plane>(board: &mut Board<P>, job: &[u8], pen: &mut Pen) -> Result<usize, Fault>
-    ensures told { result ≡ run_answer (state_of height stitch board.old) pen.old job.now }
-    ensures shown { (state_of height stitch board.new).shown ≡ run_chart (state_of height stitch board.old) pen.old job.now }
-    ensures left { Left result (state_of height stitch board.old).regs (state_of height stitch board.new).regs }
+    ensures told { result ≡ run_answer (state_of P.height P.stitch board.old) pen.old job.now }
+    ensures shown { (state_of P.height P.stitch board.new).shown ≡ run_chart (state_of P.height P.stitch board.old) pen.old job.now }
+    ensures left { Left result (state_of P.height P.stitch board.old).regs (state_of P.height P.stitch board.new).regs }
     ensures pen { pen.new ≡ pen.old }
     ensures format { Apart job.now }
-    ensures first { Judges (state_of height stitch board.old).shown.height pen.old (parsed 0 job.now) (judged_from (state_of height stitch board.old).shown.height pen.old start job.now) }
-    ensures rest { rest board.new.plane ≡ rest board.old.plane }
+    ensures first { Judges (state_of P.height P.stitch board.old).shown.height pen.old (parsed 0 job.now) (judged_from (state_of P.height P.stitch board.old).shown.height pen.old start job.now) }
+    ensures rest { P.rest board.new.plane ≡ P.rest board.old.plane }
 {
     let saved = *pen;
     let guard = Held { pen, saved };

@@ -90,11 +90,11 @@ impl Task {
 
     // Draws what the task draws.
     fn draw<P: Plane>(self, board: &mut Board<P>, pen: Pen) -> Result<(), Refusal>
-        requires idle { busy (state_of height stitch board.old) ≡ false }
-        ensures told { result ≡ task_ruling (state_of height stitch board.old).shown.height pen self }
-        ensures shown { (state_of height stitch board.new).shown ≡ drawn_by result pen self (state_of height stitch board.old).shown }
-        ensures left { Left result (state_of height stitch board.old).regs (state_of height stitch board.new).regs }
-        ensures rest { rest board.new.plane ≡ rest board.old.plane }
+        requires idle { busy (state_of P.height P.stitch board.old) ≡ false }
+        ensures told { result ≡ task_ruling (state_of P.height P.stitch board.old).shown.height pen self }
+        ensures shown { (state_of P.height P.stitch board.new).shown ≡ drawn_by result pen self (state_of P.height P.stitch board.old).shown }
+        ensures left { Left result (state_of P.height P.stitch board.old).regs (state_of P.height P.stitch board.new).regs }
+        ensures rest { P.rest board.new.plane ≡ P.rest board.old.plane }
     {
         match self {
             Task::Fill(frame) => drawing::fill(board, pen.place(frame), pen.brush),
@@ -119,11 +119,11 @@ pub(crate) fn perform<P: Plane>(
     bytes: &[u8],
     pen: Pen,
 ) -> Result<(Task, usize), Refusal>
-    requires idle { busy (state_of height stitch board.old) ≡ false }
-    ensures told { result ≡ examined (state_of height stitch board.old).shown.height pen bytes.now }
-    ensures shown { (state_of height stitch board.new).shown ≡ performed result pen (state_of height stitch board.old).shown }
-    ensures left { Left result (state_of height stitch board.old).regs (state_of height stitch board.new).regs }
-    ensures rest { rest board.new.plane ≡ rest board.old.plane }
+    requires idle { busy (state_of P.height P.stitch board.old) ≡ false }
+    ensures told { result ≡ examined (state_of P.height P.stitch board.old).shown.height pen bytes.now }
+    ensures shown { (state_of P.height P.stitch board.new).shown ≡ performed result pen (state_of P.height P.stitch board.old).shown }
+    ensures left { Left result (state_of P.height P.stitch board.old).regs (state_of P.height P.stitch board.new).regs }
+    ensures rest { P.rest board.new.plane ≡ P.rest board.old.plane }
 {
     let (task, size) = first(bytes)?;
     task.draw(board, pen)?;

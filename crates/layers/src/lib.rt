@@ -1,4 +1,6 @@
 // Planes that show another plane in another way: left for right, courses moved up and round, or on for off.
+#![tactic(auto)]
+
 pub use mirror::Mirror;
 pub use negative::Negative;
 pub use roll::Roll;

@@ -14,9 +14,9 @@ pub struct Roll<P> {
 
 // The course below that shows at a course; a plane without courses has none.
 fn below<P: Plane>(plane: &mut P, by: u16, course: Course) -> Result<Course, Refusal>
-    ensures told { result ≡ course_below by (height plane.old).rows course.0 }
-    ensures same { chart_of height stitch plane.new ≡ chart_of height stitch plane.old }
-    ensures rest { rest plane.new ≡ rest plane.old }
+    ensures told { result ≡ course_below by (P.height plane.old).rows course.0 }
+    ensures same { chart_of P.height P.stitch plane.new ≡ chart_of P.height P.stitch plane.old }
+    ensures rest { P.rest plane.new ≡ P.rest plane.old }
 {
     let tall = plane.courses();
     if course.0 >= tall {

@@ -1,4 +1,6 @@
 // Planes of stitches: what every plane promises, and planes over lent memory.
+#![tactic(auto)]
+
 ghost use Rattle.std.specs.Prelude.{◌≡◌, ℕ, ◌*◌, Bool, List, [], ◌∷◌};
 ghost use Rattle.planes.specs.Answer.{answer};
 ghost use Rattle.planes.specs.Chart.{Height, chart_of, written, window};

@@ -1,4 +1,6 @@
 // Trials of what is read: through piles of layers, into buffers, ahead, and in lists of calls.
+#![tactic(auto)]
+
 #[cfg(test)]
 mod buffers;
 #[cfg(test)]

@@ -1,4 +1,6 @@
 // The registers of a board.
+#![tactic(auto)]
+
 ghost use Rattle.std.specs.Prelude.{◌≡◌, false};
 ghost use Rattle.registers.specs.Codes.{pair_number};
 ghost use Rattle.registers.specs.State.{plain, fresh, with_flags};

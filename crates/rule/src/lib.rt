@@ -1,4 +1,6 @@
 // Lists of calls on a new board, held to the stitch rule.
+#![tactic(auto)]
+
 ghost use Rattle.std.specs.Prelude.{◌≡◌, false, map};
 ghost use Rattle.planes.specs.Chart.{chart_of};
 ghost use Rattle.board.specs.State.{state_of, busy};
@@ -60,12 +62,12 @@ fn report(res: Result<usize, Fault>) -> Answer
 
 // Makes one call.
 fn perform<P: Plane>(board: &mut Board<P>, call: &mut Call) -> Answer
-    requires idle { busy (state_of height stitch board.old) ≡ false }
-    ensures answer { Clear (asked call.old) → result ≡ ruling (rule_of (state_of height stitch board.old)) (asked call.old) }
-    ensures next { Clear (asked call.old) → rule_of (state_of height stitch board.new) ≡ next (rule_of (state_of height stitch board.old)) (asked call.old) }
+    requires idle { busy (state_of P.height P.stitch board.old) ≡ false }
+    ensures answer { Clear (asked call.old) → result ≡ ruling (rule_of (state_of P.height P.stitch board.old)) (asked call.old) }
+    ensures next { Clear (asked call.old) → rule_of (state_of P.height P.stitch board.new) ≡ next (rule_of (state_of P.height P.stitch board.old)) (asked call.old) }
     ensures call { asked call.new ≡ asked call.old }
-    ensures idle { busy (state_of height stitch board.new) ≡ false }
-    ensures rest { rest board.new.plane ≡ rest board.old.plane }
+    ensures idle { busy (state_of P.height P.stitch board.new) ≡ false }
+    ensures rest { P.rest board.new.plane ≡ P.rest board.old.plane }
 {
     match call {
         Call::Fill { frame, brush } => settle(drawing::fill(board, *frame, *brush)),
@@ -90,10 +92,10 @@ fn perform<P: Plane>(board: &mut Board<P>, call: &mut Call) -> Answer
 // Puts a new board on a plane, makes every call of a list on it, writes each answer beside its call, and gives the plane back.
 // Where no poke has its update bit set, every answer and the last chart are the stitch rule's.
 pub fn play<P: Plane>(plane: P, unit: u8, steps: &mut [Step]) -> P
-    ensures answers { AllClear (map question steps.old) → map told steps.new ≡ outcomes (begun unit (chart_of height stitch plane)) (map question steps.old) }
-    ensures chart { AllClear (map question steps.old) → chart_of height stitch result ≡ (final (begun unit (chart_of height stitch plane)) (map question steps.old)).chart }
+    ensures answers { AllClear (map question steps.old) → map told steps.new ≡ outcomes (begun unit (chart_of P.height P.stitch plane)) (map question steps.old) }
+    ensures chart { AllClear (map question steps.old) → chart_of P.height P.stitch result ≡ (final (begun unit (chart_of P.height P.stitch plane)) (map question steps.old)).chart }
     ensures calls { map question steps.new ≡ map question steps.old }
-    ensures rest { rest result ≡ rest plane }
+    ensures rest { P.rest result ≡ P.rest plane }
 {
     let mut board = Board::new(plane, unit);
     for step in steps.iter_mut() {

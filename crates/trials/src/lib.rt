@@ -1,4 +1,6 @@
 // Trials of the library on cases that can be counted by hand.
+#![tactic(auto)]
+
 #[cfg(test)]
 mod accesses;
 #[cfg(test)]

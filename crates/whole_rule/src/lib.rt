@@ -1,4 +1,6 @@
 // Lists of calls on a new board, held to the stitch rule.
+#![tactic(auto)]
+
 ghost use Rattle.std.specs.Prelude.{◌≡◌, map};
 ghost use Rattle.planes.specs.Chart.{chart_of};
 ghost use Rattle.board.specs.State.{state_of, busy};
@@ -73,11 +75,11 @@ fn report(res: Result<usize, Fault>) -> Answer
 
 // Makes one call.
 fn perform<P: Plane>(board: &mut Board<P>, slips: Slips, call: &mut Call) -> (Answer, Slips)
-    requires tied { both slips ≡ busy (state_of height stitch board.old) }
-    ensures rule { Follows (asked call.old) (state_of height stitch board.old) result.0 (asked call.new) (state_of height stitch board.new) }
+    requires tied { both slips ≡ busy (state_of P.height P.stitch board.old) }
+    ensures rule { Follows (asked call.old) (state_of P.height P.stitch board.old) result.0 (asked call.new) (state_of P.height P.stitch board.new) }
     ensures call { (asked call.new).call ≡ (asked call.old).call }
-    ensures tied { both result.1 ≡ busy (state_of height stitch board.new) }
-    ensures rest { rest board.new.plane ≡ rest board.old.plane }
+    ensures tied { both result.1 ≡ busy (state_of P.height P.stitch board.new) }
+    ensures rest { P.rest board.new.plane ≡ P.rest board.old.plane }
 {
     match call {
         Call::Fill { frame, brush } => (settle(drawing::fill(board, *frame, *brush)), slips),
@@ -106,10 +108,10 @@ fn perform<P: Plane>(board: &mut Board<P>, slips: Slips, call: &mut Call) -> (An
 
 // Makes every call of a list on a new board, with a spare slip, which comes back.
 fn play_with<P: Plane>(plane: P, unit: u8, steps: &mut [Step], spare: Slip) -> (P, Slip)
-    ensures answers { AllClear (at_first unit (chart_of height stitch plane)) (map question steps.old) → map told steps.new ≡ outcomes (at_first unit (chart_of height stitch plane)) 0 (map question steps.old) }
-    ensures chart { AllClear (at_first unit (chart_of height stitch plane)) (map question steps.old) → chart_of height stitch result.0 ≡ (final (at_first unit (chart_of height stitch plane)) (map question steps.old)).chart }
+    ensures answers { AllClear (at_first unit (chart_of P.height P.stitch plane)) (map question steps.old) → map told steps.new ≡ outcomes (at_first unit (chart_of P.height P.stitch plane)) 0 (map question steps.old) }
+    ensures chart { AllClear (at_first unit (chart_of P.height P.stitch plane)) (map question steps.old) → chart_of P.height P.stitch result.0 ≡ (final (at_first unit (chart_of P.height P.stitch plane)) (map question steps.old)).chart }
     ensures calls { map request steps.new ≡ map request steps.old }
-    ensures rest { rest result.0 ≡ rest plane }
+    ensures rest { P.rest result.0 ≡ P.rest plane }
 {
     let mut board = Board::new(plane, unit);
     let mut slips = Slips::Spare(spare);
@@ -129,10 +131,10 @@ fn play_with<P: Plane>(plane: P, unit: u8, steps: &mut [Step], spare: Slip) -> (
 // Where no accepted poke has its update bit set, every answer, every buffer and the last chart are the stitch rule's.
 // A collect or give_up with no word under way presents a slip that another board handed out, and is refused; a word under way at the end is given up.
 pub fn play<P: Plane>(plane: P, unit: u8, steps: &mut [Step]) -> P
-    ensures answers { AllClear (at_first unit (chart_of height stitch plane)) (map question steps.old) → map told steps.new ≡ outcomes (at_first unit (chart_of height stitch plane)) 0 (map question steps.old) }
-    ensures chart { AllClear (at_first unit (chart_of height stitch plane)) (map question steps.old) → chart_of height stitch result ≡ (final (at_first unit (chart_of height stitch plane)) (map question steps.old)).chart }
+    ensures answers { AllClear (at_first unit (chart_of P.height P.stitch plane)) (map question steps.old) → map told steps.new ≡ outcomes (at_first unit (chart_of P.height P.stitch plane)) 0 (map question steps.old) }
+    ensures chart { AllClear (at_first unit (chart_of P.height P.stitch plane)) (map question steps.old) → chart_of P.height P.stitch result ≡ (final (at_first unit (chart_of P.height P.stitch plane)) (map question steps.old)).chart }
     ensures calls { map request steps.new ≡ map request steps.old }
-    ensures rest { rest result ≡ rest plane }
+    ensures rest { P.rest result ≡ P.rest plane }
 {
     let mut bytes = [0u8; 128];
     let mut other = Board::new(Flat::new(&mut bytes), 0);

@@ -18,11 +18,11 @@ pub(crate) enum Slips {
 
 // Begins a word, and keeps its slip.
 pub(crate) fn begin<P: Plane>(board: &mut Board<P>, slips: Slips, at: Cursor) -> (Answer, Slips)
-    requires tied { both slips ≡ busy (state_of height stitch board.old) }
-    ensures answer { result.0 ≡ settled (begin_ruling at.x.0 at.y.0 (state_of height stitch board.old)) }
-    ensures step { state_of height stitch board.new ≡ begun at.x.0 at.y.0 (state_of height stitch board.old) }
-    ensures tied { both result.1 ≡ busy (state_of height stitch board.new) }
-    ensures rest { rest board.new.plane ≡ rest board.old.plane }
+    requires tied { both slips ≡ busy (state_of P.height P.stitch board.old) }
+    ensures answer { result.0 ≡ settled (begin_ruling at.x.0 at.y.0 (state_of P.height P.stitch board.old)) }
+    ensures step { state_of P.height P.stitch board.new ≡ begun at.x.0 at.y.0 (state_of P.height P.stitch board.old) }
+    ensures tied { both result.1 ≡ busy (state_of P.height P.stitch board.new) }
+    ensures rest { P.rest board.new.plane ≡ P.rest board.old.plane }
 {
     match board.begin(at) {
         Err(refusal) => (Answer::Refused(refusal), slips),
@@ -35,9 +35,9 @@ pub(crate) fn begin<P: Plane>(board: &mut Board<P>, slips: Slips, at: Cursor) ->
 
 // Presents a slip for the word: its own while one is under way, and else the spare one, which comes back.
 pub(crate) fn collect<P: Plane>(board: &mut Board<P>, slips: Slips) -> (Answer, Slips)
-    requires tied { both slips ≡ busy (state_of height stitch board.old) }
-    ensures answer { result.0 ≡ collected (state_of height stitch board.old).regs.ahead }
-    ensures step { state_of height stitch board.new ≡ keeping None (state_of height stitch board.old) }
+    requires tied { both slips ≡ busy (state_of P.height P.stitch board.old) }
+    ensures answer { result.0 ≡ collected (state_of P.height P.stitch board.old).regs.ahead }
+    ensures step { state_of P.height P.stitch board.new ≡ keeping None (state_of P.height P.stitch board.old) }
     ensures tied { both result.1 ≡ false }
     ensures plane { board.new.plane ≡ board.old.plane }
 {
@@ -55,9 +55,9 @@ pub(crate) fn collect<P: Plane>(board: &mut Board<P>, slips: Slips) -> (Answer, 
 
 // Presents a slip to give the word up, likewise.
 pub(crate) fn give_up<P: Plane>(board: &mut Board<P>, slips: Slips) -> (Answer, Slips)
-    requires tied { both slips ≡ busy (state_of height stitch board.old) }
-    ensures answer { result.0 ≡ given_up (state_of height stitch board.old).regs.ahead }
-    ensures step { state_of height stitch board.new ≡ keeping None (state_of height stitch board.old) }
+    requires tied { both slips ≡ busy (state_of P.height P.stitch board.old) }
+    ensures answer { result.0 ≡ given_up (state_of P.height P.stitch board.old).regs.ahead }
+    ensures step { state_of P.height P.stitch board.new ≡ keeping None (state_of P.height P.stitch board.old) }
     ensures tied { both result.1 ≡ false }
     ensures plane { board.new.plane ≡ board.old.plane }
 {

@@ -1,4 +1,6 @@
 // Words of sixteen bits, bit 15 leftmost: windows and merges over two words side by side, and the function unit on whole words.
+#![tactic(auto)]
+
 ghost use Rattle.std.specs.Prelude.{◌≡◌, ℕ, ◌+◌, ◌-◌, ◌*◌, ◌/◌, ◌%◌, ◌<◌, ◌&&◌, if◌then◌else◌, ◌==◌, nat_eq, nat_lt};
 ghost use Rattle.words.specs.Bit.{bit, across, index, placed};
 

@@ -11,17 +11,17 @@ use Rattle.drawing.proofs.fill_rect.Goals as goal
 pub loop-k-init : goal.loop-k-init
 loop-k-init g c = (drew_none (covers c.args.rect) (state_of g.P.Plane.height g.P.Plane.stitch c.ink.new.board), refl)
 
-pub fill-strip-requires : goal.fill-strip-requires
-fill-strip-requires g c = record {
+pub fill_strip-requires : goal.fill_strip-requires
+fill_strip-requires g c = record {
   there = omega arith;
-  ready = ready_still _ (state_of g.P.Plane.height g.P.Plane.stitch c.ink.new.board) (state_of g.P.Plane.height g.P.Plane.stitch c.loop-k.board) c.loop-k.invariant.0.spent c.in-ok-ink.ensures.ready;
+  ready = ready_still _ (state_of g.P.Plane.height g.P.Plane.stitch c.ink.new.board) (state_of g.P.Plane.height g.P.Plane.stitch c.loop-k.board) c.loop-k.invariant.0.spent c.in_ok-ink.ensures.ready;
 }
 
 pub loop-k-preserved : goal.loop-k-preserved
 loop-k-preserved g c =
-    let e = c.in-ok-fill-strip.ensures in
+    let e = c.in_ok-fill_strip.ensures in
     let there : 16 * c.loop-k.k < c.args.rect.w = omega arith in (
-      drew_more (covers c.args.rect) c.loop-k.k (state_of g.P.Plane.height g.P.Plane.stitch c.ink.new.board) (state_of g.P.Plane.height g.P.Plane.stitch c.loop-k.board) (state_of g.P.Plane.height g.P.Plane.stitch c.fill-strip.new.board) there c.loop-k.invariant.0 e.drew,
+      drew_more (covers c.args.rect) c.loop-k.k (state_of g.P.Plane.height g.P.Plane.stitch c.ink.new.board) (state_of g.P.Plane.height g.P.Plane.stitch c.loop-k.board) (state_of g.P.Plane.height g.P.Plane.stitch c.fill_strip.new.board) there c.loop-k.invariant.0 e.drew,
       e.rest ∙ c.loop-k.invariant.1,
     )
 
@@ -31,7 +31,7 @@ returns g c =
     let made : State = state_of g.P.Plane.height g.P.Plane.stitch c.ink.new.board in
     let end : State = state_of g.P.Plane.height g.P.Plane.stitch c.loop-k.board in
     let a : Area = covers c.args.rect in
-    let ink = c.in-ok-ink.ensures in
+    let ink = c.in_ok-ink.ensures in
     let enough : c.args.rect.w ≤ 16 * c.loop-k.k = omega arith in
     let drew = subst (λ (q : Area). Drew q made end) (front_all a c.loop-k.k enough) c.loop-k.invariant.0 in
     record {

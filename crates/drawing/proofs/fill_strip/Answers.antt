@@ -19,7 +19,7 @@ loop-course-init g c =
 pub ask-requires : goal.ask-requires
 ask-requires g c = record {
   near = omega arith;
-  ready = ready_still c.args.unit.number (state_of g.P.Plane.height g.P.Plane.stitch c.aim.new.board) (state_of g.P.Plane.height g.P.Plane.stitch c.loop-course.board) c.loop-course.invariant.0.drew.spent c.in-ok-aim.ensures.ready;
+  ready = ready_still c.args.unit.number (state_of g.P.Plane.height g.P.Plane.stitch c.aim.new.board) (state_of g.P.Plane.height g.P.Plane.stitch c.loop-course.board) c.loop-course.invariant.0.drew.spent c.in_ok-aim.ensures.ready;
 }
 
 pub loop-course-preserved : goal.loop-course-preserved
@@ -29,7 +29,7 @@ loop-course-preserved g c =
     let next : State = state_of g.P.Plane.height g.P.Plane.stitch c.ask.new.board in
     let y : ℕ = c.args.rect.y.0 in
     let n : ℕ = c.loop-course.course - y in
-    let e = c.in-ok-ask.ensures in
+    let e = c.in_ok-ask.ensures in
     let at : c.loop-course.course ≡ y + n = omega arith in
     let more : n + 1 ≡ c.loop-course.course + 1 - y = omega arith in
     let step = e.step ∙ ap (λ (v : ℕ). poking 65535 (row_access v) was) at in
@@ -44,7 +44,7 @@ returns g c =
     let made : State = state_of g.P.Plane.height g.P.Plane.stitch c.aim.new.board in
     let end : State = state_of g.P.Plane.height g.P.Plane.stitch c.loop-course.board in
     let y : ℕ = c.args.rect.y.0 in
-    let e = c.in-ok-aim.ensures in
+    let e = c.in_ok-aim.ensures in
     let all : c.loop-course.course - y ≡ c.args.rect.h = omega arith in
     let row = subst (λ (n : ℕ). Row y n made end) all c.loop-course.invariant.0 in
     let width : c.min-width.result ≡ min 16 (c.args.rect.w - 16 * c.args.k) = omega arith in

@@ -12,36 +12,36 @@ use Rattle.jobs.proofs.Judging.{judges}
 use Rattle.jobs.proofs.Reading.{apart}
 use Rattle.jobs.proofs.run.Goals as goal
 
-pub returns-in-err-blame : goal.returns-in-err-blame
-returns-in-err-blame g c =
-    let format = apart c.args.job.now (λ i. (c.type-inv.job i).fits) in
+pub returns-in_err-blame : goal.returns-in_err-blame
+returns-in_err-blame g c =
+    let format = apart c.args.job.now (λ i. (c.type_inv.job i).fits) in
     let first = judges (state_of g.P.Plane.height g.P.Plane.stitch c.args.board.now).shown.height c.args.pen.now c.args.job.now in
     search rules
 
 pub returns-then-job-gt-LONGEST : goal.returns-then-job-gt-LONGEST
 returns-then-job-gt-LONGEST g c =
-    let format = apart c.args.job.now (λ i. (c.type-inv.job i).fits) in
+    let format = apart c.args.job.now (λ i. (c.type_inv.job i).fits) in
     let first = judges (state_of g.P.Plane.height g.P.Plane.stitch c.args.board.now).shown.height c.args.pen.now c.args.job.now in
     search rules
 
-pub returns-in-err-check : goal.returns-in-err-check
-returns-in-err-check g c =
+pub returns-in_err-check : goal.returns-in_err-check
+returns-in_err-check g c =
     let was : State = state_of g.P.Plane.height g.P.Plane.stitch c.args.board.now in
     let pen : Pen = c.args.pen.now in
     let job : List ℕ = c.args.job.now in
-    let f = c.in-err-check.field-0.0 in
-    let p = err_from_is_err_and c.from-residual-in-err-check.result c.from-residual-in-err-check.ensures.1 in
-    let res : c.from-residual-in-err-check.result ≡ Err f = p.1 ∙ ap Err p.2 in
-    let idle = ready_idle was start c.ready.result _ c.ready.ensures c.in-ok-blame.ensures in
+    let f = c.in_err-check.field-0.0 in
+    let p = err_from_is_err_and c.from_residual-in_err-check.result c.from_residual-in_err-check.ensures.1 in
+    let res : c.from_residual-in_err-check.result ≡ Err f = p.1 ∙ ap Err p.2 in
+    let idle = ready_idle was start c.ready.result _ c.ready.ensures c.in_ok-blame.ensures in
     let short : length job ≤ 65535 = omega arith in
-    let answer : Err f ≡ run_answer was pen job = c.in-err-check.ensures ∙ ap (λ (h : ℕ). judged_from h pen start job) c.height-height.ensures.told ∙ sym (answer_is was pen job idle short) in
+    let answer : Err f ≡ run_answer was pen job = c.in_err-check.ensures ∙ ap (λ (h : ℕ). judged_from h pen start job) c.height-height.ensures.told ∙ sym (answer_is was pen job idle short) in
     let same = c.height-height.ensures.same in
     record {
       told = res ∙ answer;
       shown = ap (λ (s : State). s.shown) same ∙ ap (λ (r : Result ℕ Fault). ran_to r pen job was.shown) answer;
       left = subst (λ (r : Result ℕ Fault). Left r was.regs (state_of g.P.Plane.height g.P.Plane.stitch c.height-height.new.self).regs) (sym res) (ap (λ (s : State). s.regs) same);
-      pen = c.drop-guard-in-err-check.ensures;
-      format = apart job (λ i. (c.type-inv.job i).fits);
+      pen = c.drop-guard-in_err-check.ensures;
+      format = apart job (λ i. (c.type_inv.job i).fits);
       first = judges was.shown.height pen job;
       rest = c.height-height.ensures.rest;
     }
@@ -52,22 +52,22 @@ returns g c =
     let pen : Pen = c.args.pen.now in
     let job : List ℕ = c.args.job.now in
     let same = c.height-height.ensures.same in
-    let idle = ready_idle was start c.ready.result _ c.ready.ensures c.in-ok-blame.ensures in
+    let idle = ready_idle was start c.ready.result _ c.ready.ensures c.in_ok-blame.ensures in
     let short : length job ≤ 65535 = omega arith in
     let made : State = state_of g.P.Plane.height g.P.Plane.stitch c.height-height.new.self in
-    let end : State = state_of g.P.Plane.height g.P.Plane.stitch c.carry-out.new.board in
-    let answer : c.carry-out.result ≡ run_answer was pen job =
-    c.carry-out.ensures.told ∙ ap (λ (s : State). judged_from s.shown.height pen start job) same ∙ sym (answer_is was pen job idle short) in
-    let checked : Ok c.in-ok-check.field-0 ≡ run_answer was pen job =
-    c.in-ok-check.ensures ∙ ap (λ (h : ℕ). judged_from h pen start job) c.height-height.ensures.told ∙ sym (answer_is was pen job idle short) in
+    let end : State = state_of g.P.Plane.height g.P.Plane.stitch c.carry_out.new.board in
+    let answer : c.carry_out.result ≡ run_answer was pen job =
+    c.carry_out.ensures.told ∙ ap (λ (s : State). judged_from s.shown.height pen start job) same ∙ sym (answer_is was pen job idle short) in
+    let checked : Ok c.in_ok-check.field-0 ≡ run_answer was pen job =
+    c.in_ok-check.ensures ∙ ap (λ (h : ℕ). judged_from h pen start job) c.height-height.ensures.told ∙ sym (answer_is was pen job idle short) in
     let ok : is_ok {E = Fault} (run_answer was pen job) ≡ true = sym (ap (is_ok {E = Fault}) checked) in
-    let spent = subst (λ (r : Regs). Spent r end.regs) (ap (λ (s : State). s.regs) same) c.carry-out.ensures.spent in
+    let spent = subst (λ (r : Regs). Spent r end.regs) (ap (λ (s : State). s.regs) same) c.carry_out.ensures.spent in
     record {
       told = answer;
-      shown = c.carry-out.ensures.shown ∙ ap (λ (s : State). carried_from pen job s.shown) same ∙ sym (ran_ok (run_answer was pen job) pen job was.shown ok);
-      left = left_ok c.carry-out.result was.regs end.regs (ap (is_ok {E = Fault}) answer ∙ ok) spent;
+      shown = c.carry_out.ensures.shown ∙ ap (λ (s : State). carried_from pen job s.shown) same ∙ sym (ran_ok (run_answer was pen job) pen job was.shown ok);
+      left = left_ok c.carry_out.result was.regs end.regs (ap (is_ok {E = Fault}) answer ∙ ok) spent;
       pen = c.drop-guard-2.ensures;
-      format = apart job (λ i. (c.type-inv.job i).fits);
+      format = apart job (λ i. (c.type_inv.job i).fits);
       first = judges was.shown.height pen job;
-      rest = c.carry-out.ensures.rest ∙ c.height-height.ensures.rest;
+      rest = c.carry_out.ensures.rest ∙ c.height-height.ensures.rest;
     }

@@ -16,11 +16,11 @@ returns-in-Control g c =
     let was : State = state_of g.P.Plane.height g.P.Plane.stitch c.args.self.now in
     record { step = load_none c.args.access was Control _ c.in-Control.is (λ _ _. refl) c.load-in-Control.ensures; rest = refl }
 
-pub returns-in-default : goal.returns-in-default
-returns-in-default g c =
+pub returns-in_default : goal.returns-in_default
+returns-in_default g c =
     let was : State = state_of g.P.Plane.height g.P.Plane.stitch c.args.self.now in
     let word = c.window-word.ensures.told ∙ ap (λ (p : Cursor). window was.shown p.x.0 p.y.0) c.cursor-at.ensures in
     record {
-      step = load_word c.args.access was (state_of g.P.Plane.height g.P.Plane.stitch c.window-word.new.self) _ c.window-word.result c.window-word.ensures.same word c.load-in-default.ensures;
+      step = load_word c.args.access was (state_of g.P.Plane.height g.P.Plane.stitch c.window-word.new.self) _ c.window-word.result c.window-word.ensures.same word c.load-in_default.ensures;
       rest = c.window-word.ensures.rest;
     }

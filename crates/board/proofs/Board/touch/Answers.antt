@@ -41,9 +41,9 @@ returns-in-Ok g c =
     cc) in
     record { step = λ i. record { shown = shown i; regs = was.regs }; rest = c.write.ensures.rest ∙ e.rest }
 
-pub returns-in-default : goal.returns-in-default
-returns-in-default g c =
+pub returns-in_default : goal.returns-in_default
+returns-in_default g c =
     let was : State = state_of g.P.Plane.height g.P.Plane.stitch c.args.self.now in
-    let e = c.in-default.ensures in
+    let e = c.in_default.ensures in
     let shown = e.same ∙ refused_drawn _ _ was.regs.function was.regs.mask c.args.here _ _ (λ u v. masked c.args.source u) _ _ e.told in
     record { step = λ i. record { shown = shown i; regs = was.regs }; rest = e.rest }

@@ -36,7 +36,7 @@ returns g c =
     let one : state_of g.P.Plane.height g.P.Plane.stitch c.touch.new.self ≡ record { shown = put r (x / 16) c.lay-here.result.0 c.lay-lead.result.0 was.shown; regs = r } =
     c.touch.ensures.step ∙ (λ i. record { shown = put r (c.word.ensures i) c.lay-here.result.0 c.lay-lead.result.0 (c.courses.ensures.same i); regs = r }) in
     let two : state_of g.P.Plane.height g.P.Plane.stitch c.touch-2.new.self ≡ record { shown = put r (x / 16 + 1) c.lay-here.result.1 c.lay-lead.result.1 (put r (x / 16) c.lay-here.result.0 c.lay-lead.result.0 was.shown); regs = r } =
-    c.touch-2.ensures.step ∙ (λ i. record { shown = put (one i).regs (c.next-word.ensures i) c.lay-here.result.1 c.lay-lead.result.1 (one i).shown; regs = (one i).regs }) in
+    c.touch-2.ensures.step ∙ (λ i. record { shown = put (one i).regs (c.next_word.ensures i) c.lay-here.result.1 c.lay-lead.result.1 (one i).shown; regs = (one i).regs }) in
     let all =
     both_drawn r.function r.mask x y r.width c.ones-ones.result source c.lay-here.result.0 c.lay-here.result.1 c.lay-lead.result.0 c.lay-lead.result.1 (omega arith)
     (λ k h. c.ones-ones.ensures k h ∙ ap (ltb k) c.stitches.ensures) c.lay-here.ensures c.lay-lead.ensures was.shown

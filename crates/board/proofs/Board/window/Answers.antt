@@ -21,9 +21,9 @@ returns g c =
     let asked = c.courses.ensures.same in
     let first : state_of g.P.Plane.height g.P.Plane.stitch c.fetch-left.new.self ≡ was = c.fetch-left.ensures.same ∙ (λ i. record { shown = asked i; regs = was.regs }) in
     let left = c.fetch-left.ensures.told ∙ (λ i. window (asked i) (16 * c.word.ensures i) y) in
-    let right = c.fetch-right.ensures.told ∙ (λ i. window (first i).shown (16 * c.next-word.ensures i) y) in
+    let right = c.fetch-right.ensures.told ∙ (λ i. window (first i).shown (16 * c.next_word.ensures i) y) in
     record {
-      told = window_two was.shown (x / 16) y (x % 16) _ _ _ (omega arith) c.window.type-inv left right c.window.ensures ∙ ap (λ (u : ℕ). window was.shown u y) whole;
+      told = window_two was.shown (x / 16) y (x % 16) _ _ _ (omega arith) c.window.type_inv left right c.window.ensures ∙ ap (λ (u : ℕ). window was.shown u y) whole;
       same = c.fetch-right.ensures.same ∙ first;
       rest = c.fetch-right.ensures.rest ∙ c.fetch-left.ensures.rest ∙ c.courses.ensures.rest;
     }

@@ -10,14 +10,14 @@ pub returns : goal.returns
 returns g c =
     let was : State = state_of g.P.Plane.height g.P.Plane.stitch c.args.board.now in
     let bytes : List ℕ = c.args.buffer.now in
-    let a : Area = covers c.in-ok-rect.rect in
-    let room : pattern_bytes a ≤ length bytes = omega (arith, c.pattern-bytes.ensures) in
-    let end = c.lift-rect.ensures.bytes ∙ ap (λ (s : State). lifted (Ok a) s.shown bytes) c.height.ensures.same in
+    let a : Area = covers c.in_ok-rect.rect in
+    let room : pattern_bytes a ≤ length bytes = omega (arith, c.pattern_bytes.ensures) in
+    let end = c.lift_rect.ensures.bytes ∙ ap (λ (s : State). lifted (Ok a) s.shown bytes) c.height.ensures.same in
     let rows = subst (λ (bs : List ℕ). Rows was.shown a bs) (sym end) (lifted_rows was.shown a bytes room) in
     record {
       told = search rules;
       bytes = search rules;
-      rows = λ _. subst (λ (b : Area). Rows was.shown b c.lift-rect.new.buffer) (ruled_is _ (area c.args.frame) a c.in-ok-rect.ensures) rows;
+      rows = λ _. subst (λ (b : Area). Rows was.shown b c.lift_rect.new.buffer) (ruled_is _ (area c.args.frame) a c.in_ok-rect.ensures) rows;
       shown = search rules;
       left = search rules;
       rest = search rules;

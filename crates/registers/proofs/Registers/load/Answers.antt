@@ -11,7 +11,7 @@ pub returns-in-Mask : goal.returns-in-Mask
 returns-in-Mask c =
     let was : Regs = plain c.args.self.now in
     let x : ℕ = c.cursor.result.x.0 in
-    let is = turn_is c.args.word x c.window-self.result c.window-self.type-inv c.window-self.ensures in
+    let is = turn_is c.args.word x c.window-self.result c.window-self.type_inv c.window-self.ensures in
     ap (λ (n : ℕ). with_mask n was) is
     ∙ ap (λ (p : Cursor). with_mask (aligned p.x.0 c.args.word) was) c.cursor.ensures
     ∙ ap (λ (k : Choice). load k c.args.access.place (was.cursors (pair_number c.args.access.pair)).x.0 c.args.word was) (sym c.in-Mask.is)

@@ -22,4 +22,4 @@ turned word high low small is-high is-low k h =
     ]
 
 pub returns : goal.returns
-returns c = turned c.args.word _ _ c.reverse-byte-low.type-inv c.reverse-byte-high.ensures c.reverse-byte-low.ensures
+returns c = turned c.args.word _ _ c.reverse_byte-low.type_inv c.reverse_byte-high.ensures c.reverse_byte-low.ensures

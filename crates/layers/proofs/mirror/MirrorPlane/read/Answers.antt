@@ -8,16 +8,16 @@ use Rattle.layers.proofs.mirror.MirrorPlane.read.Goals as goal
 pub returns-then-word-ge64 : goal.returns-then-word-ge64
 returns-then-word-ge64 g c = record { told = answer_off _ _ _ _ (on_wide _ _ _ (omega arith)); same = refl; rest = refl }
 
-pub returns-in-err-below : goal.returns-in-err-below
-returns-in-err-below g c =
-    let e = err_from_is_err_and c.from-residual.result c.from-residual.ensures.1 in
+pub returns-in_err-below : goal.returns-in_err-below
+returns-in_err-below g c =
+    let e = err_from_is_err_and c.from_residual.result c.from_residual.ensures.1 in
     let was = c.args.self.now.plane in
     let few : c.args.word.0 < 64 = omega arith in
     let place = mirror_place (g.P.Plane.height was).rows c.args.word.0 c.args.course.0 few in
     record {
-      told = e.1 ∙ ap Err e.2 ∙ err_seen mirror g.P.Plane.height g.P.Plane.stitch was place c.in-err-below.field-0.0 c.in-err-below.ensures.told;
-      same = same_seen mirror g.P.Plane.height g.P.Plane.stitch c.read.new.self was c.in-err-below.ensures.same;
-      rest = c.in-err-below.ensures.rest;
+      told = e.1 ∙ ap Err e.2 ∙ err_seen mirror g.P.Plane.height g.P.Plane.stitch was place c.in_err-below.field-0.0 c.in_err-below.ensures.told;
+      same = same_seen mirror g.P.Plane.height g.P.Plane.stitch c.read.new.self was c.in_err-below.ensures.same;
+      rest = c.in_err-below.ensures.rest;
     }
 
 pub returns : goal.returns
@@ -25,10 +25,10 @@ returns g c =
     let was = c.args.self.now.plane in
     let few : c.args.word.0 < 64 = omega arith in
     let place = mirror_place (g.P.Plane.height was).rows c.args.word.0 c.args.course.0 few in
-    let below : ℕ = c.in-ok-below.below in
+    let below : ℕ = c.in_ok-below.below in
     let shows = mirror_up below c.reverse.result c.reverse.ensures in
     record {
-      told = ok_seen mirror g.P.Plane.height g.P.Plane.stitch was place below c.reverse.result c.reverse.type-inv shows c.in-ok-below.ensures.told;
-      same = same_seen mirror g.P.Plane.height g.P.Plane.stitch c.read.new.self was c.in-ok-below.ensures.same;
-      rest = c.in-ok-below.ensures.rest;
+      told = ok_seen mirror g.P.Plane.height g.P.Plane.stitch was place below c.reverse.result c.reverse.type_inv shows c.in_ok-below.ensures.told;
+      same = same_seen mirror g.P.Plane.height g.P.Plane.stitch c.read.new.self was c.in_ok-below.ensures.same;
+      rest = c.in_ok-below.ensures.rest;
     }

@@ -6,16 +6,16 @@ use Rattle.layers.proofs.Views.{same_seen, same_told, same_put, put_seen, told_s
 use Rattle.layers.proofs.Layers.{roll, roll_place, roll_shows, roll_off, roll_refused}
 use Rattle.layers.proofs.roll.RollPlane.write.Goals as goal
 
-pub returns-in-err-y : goal.returns-in-err-y
-returns-in-err-y g c =
+pub returns-in_err-y : goal.returns-in_err-y
+returns-in_err-y g c =
     let by : ℕ = c.args.self.now.by in
     let was = c.args.self.now.plane in
     let h : ℕ = (g.P.Plane.height was).rows in
-    let e = err_from_is_err_and c.from-residual.result c.from-residual.ensures.1 in
-    let none = c.in-err-y.ensures in
-    let off = roll_off by h c.args.word.0 c.args.course.0 c.in-err-y.field-0.0 none.told in
+    let e = err_from_is_err_and c.from_residual.result c.from_residual.ensures.1 in
+    let none = c.in_err-y.ensures in
+    let off = roll_off by h c.args.word.0 c.args.course.0 c.in_err-y.field-0.0 none.told in
     record {
-      told = e.1 ∙ ap Err e.2 ∙ roll_refused by h c.args.word.0 c.args.course.0 tt c.in-err-y.field-0.0 none.told;
+      told = e.1 ∙ ap Err e.2 ∙ roll_refused by h c.args.word.0 c.args.course.0 tt c.in_err-y.field-0.0 none.told;
       put = same_seen (roll by) g.P.Plane.height g.P.Plane.stitch c.below.new.plane was none.same ∙ written_off _ _ _ _ _ off;
       rest = ap (λ (r : List (List ℕ)). (by ∷ []) ∷ r) none.rest;
     }
@@ -25,10 +25,10 @@ returns g c =
     let by : ℕ = c.args.self.now.by in
     let was = c.args.self.now.plane in
     let w : ℕ = c.args.word.0 in
-    let y : ℕ = c.in-ok-y.y.0 in
+    let y : ℕ = c.in_ok-y.y.0 in
     let value : ℕ = c.args.value in
-    let found = c.in-ok-y.ensures in
-    let place = roll_place by (g.P.Plane.height was).rows w c.args.course.0 c.in-ok-y.y found.told in
+    let found = c.in_ok-y.ensures in
+    let place = roll_place by (g.P.Plane.height was).rows w c.args.course.0 c.in_ok-y.y found.told in
     let done = same_told g.P.Plane.height g.P.Plane.stitch c.below.new.plane was w y found.same (λ (p : Chart). tt) c.write.result c.write.ensures.told in
     let put = same_put g.P.Plane.height g.P.Plane.stitch c.below.new.plane was w y found.same value _ c.write.ensures.put in
     record {

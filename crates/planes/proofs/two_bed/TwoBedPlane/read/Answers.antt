@@ -11,5 +11,5 @@ returns-then-course-tall c = record { told = answer_off _ _ _ _ (on_high _ _ _ (
 
 pub returns : goal.returns
 returns c =
-    let read = bed_read c.args.self.now.front.now c.args.self.now.back.now c.args.word.0 c.args.course.0 c.interleave.result (omega arith) (omega arith) c.interleave.type-inv c.interleave.ensures in
+    let read = bed_read c.args.self.now.front.now c.args.self.now.back.now c.args.word.0 c.args.course.0 c.interleave.result (omega arith) (omega arith) c.interleave.type_inv c.interleave.ensures in
     record { told = answer_on _ _ _ _ _ (omega arith) (omega arith) read; same = refl; rest = refl }
