@@ -18,7 +18,7 @@ use Rattle.drawing.specs.Figures.{Area, ruled}
 use Rattle.drawing.specs.Fills.{fill_ruling, filled}
 use Rattle.drawing.specs.Spending.{Left}
 use Rattle.drawing.specs.Setting.{Ready}
-use Rattle.drawing.proofs.Strips.{poking_ready}
+use Rattle.drawing.proofs.Accesses.{poking_ready}
 use Rattle.jobs.specs.declared.fault.Fault.{Fault}
 use Rattle.jobs.specs.declared.pen.Pen.{Pen}
 use Rattle.jobs.specs.Faults.{start, fault}

@@ -12,9 +12,9 @@ loop-y-preserved g c =
     let shown : Chart = chart_of g.P.Plane.height g.P.Plane.stitch c.args.plane.now in
     let y : ℕ = c.loop-y.y in
     let inv = c.loop-y.invariant in
-    let word = c.first-word-word.ensures in (
-      picture_more shown y c.first-word-word.result (string_bytes c.loop-y.text) (string_bytes c.push-row.new.text) (string_bytes c.args.text.now)
-          (word.told ∙ ap (λ (d : Chart). window d 0 y) inv.1) inv.0 c.in-ok-push-row.ensures,
+    let word = c.first_word-word.ensures in (
+      picture_more shown y c.first_word-word.result (string_bytes c.loop-y.text) (string_bytes c.push_row.new.text) (string_bytes c.args.text.now)
+          (word.told ∙ ap (λ (d : Chart). window d 0 y) inv.1) inv.0 c.in_ok-push_row.ensures,
       word.same ∙ inv.1,
     )
 

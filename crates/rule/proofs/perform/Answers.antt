@@ -30,7 +30,7 @@ pub returns-in-Run : goal.returns-in-Run
 returns-in-Run g c =
     let was : board.State = state_of g.P.Plane.height g.P.Plane.stitch c.args.board.now in
     let end : board.State = state_of g.P.Plane.height g.P.Plane.stitch c.run.new.board in
-    let bytes = c.as-slice.ensures.value in
+    let bytes = c.as_slice.ensures.value in
     let pen : Pen = c.in-Run.pen in
     let e = c.run.ensures in
     let told = e.told ∙ ap (run_answer was pen) bytes in

@@ -48,8 +48,8 @@ returns g c =
     record {
       answers = λ all. answers_all end steps c.loop-step.step-index over (inv.3 all).2 ∙ ap (λ (s : State). outcomes s asked) new;
       chart = λ all.
-          ap (chart_of g.P.Plane.height g.P.Plane.stitch) c.into-plane.ensures
+          ap (chart_of g.P.Plane.height g.P.Plane.stitch) c.into_plane.ensures
           ∙ ap (λ (s : State). s.chart) (final_all end steps c.loop-step.step-index over (inv.3 all).1 ∙ ap (λ (s : State). final s asked) new);
       calls = inv.2;
-      rest = ap g.P.Plane.rest c.into-plane.ensures ∙ inv.1 ∙ ap g.P.Plane.rest c.new-board.ensures.plane;
+      rest = ap g.P.Plane.rest c.into_plane.ensures ∙ inv.1 ∙ ap g.P.Plane.rest c.new-board.ensures.plane;
     }

@@ -47,7 +47,7 @@ returns g c =
     let over : length steps ≤ i = omega arith in
     let all : List Question = map question c.args.steps.now in
     let first = ap (rule_of None) c.new-board.ensures.made in
-    let back = c.into-plane.ensures ∙ c.give-up-slips.ensures.plane in
+    let back = c.into_plane.ensures ∙ c.give_up-slips.ensures.plane in
     let inv = c.loop-step.invariant in
     record {
       answers = λ clear. let all_clear = subst (λ (s : State). AllClear s all) (sym first) clear in playing_answers (rule_of None new) new.regs.status all end steps i over (inv.3 all_clear) ∙ ap (λ (s : board.State). outcomes (rule_of None s) s.regs.status all) c.new-board.ensures.made;
