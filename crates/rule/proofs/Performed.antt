@@ -23,7 +23,7 @@ use Rattle.jobs.specs.declared.fault.Fault.{Fault}
 use Rattle.jobs.specs.declared.pen.Pen.{Pen}
 use Rattle.jobs.specs.Faults.{start, fault}
 use Rattle.jobs.specs.Runs.{job_answer, run_answer, run_chart, ran_to}
-use Rattle.rule.specs.Rule.{State, fill, run, settled, reported, ruling, next}
+use Rattle.rule.specs.Rule.{fill, run, settled, reported, ruling, next}
 use Rattle.rule.specs.Calls.{rule_of}
 
 settled_instead : {A V : Type 0} (v : V) (r : Result A Refusal) → settled (instead v r) ≡ settled r

@@ -1,4 +1,4 @@
-use Rattle.std.proofs.Common.{◌≡◌, ◌-◌}
+use Rattle.std.proofs.Common.{◌≡◌}
 use Rattle.board.specs.State.{state_of}
 use Rattle.drawing.specs.Given.{covers}
 use Rattle.drawing.specs.Setting.{Drew}

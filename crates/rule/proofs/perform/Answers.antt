@@ -6,7 +6,7 @@ use Rattle.drawing.specs.Given.{area}
 use Rattle.rule.specs.declared.Call.{Call}
 use Rattle.jobs.specs.declared.pen.Pen.{Pen}
 use Rattle.jobs.specs.Runs.{run_answer, run_chart}
-use Rattle.rule.specs.Rule.{State, run, Clear, settled, ruling, next}
+use Rattle.rule.specs.Rule.{run, Clear, settled, ruling, next}
 use Rattle.rule.specs.Calls.{asked, rule_of}
 use Rattle.rule.proofs.Performed.{fill_answer, fill_next, run_answer_is, run_next, left_unit, left_idle, access_answer, poke_next, poke_idle, peek_next, peek_idle}
 use Rattle.rule.proofs.perform.Goals as goal

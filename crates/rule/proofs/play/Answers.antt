@@ -1,6 +1,5 @@
 use Rattle.std.proofs.Common.{◌≡◌, ℕ, ◌<◌, ◌≤◌, List, map, length, get_or, refl, ap, ◌∙◌, arith}
 use Rattle.planes.specs.Chart.{chart_of}
-use Rattle.board.specs.State as board
 use Rattle.board.specs.State.{state_of, busy}
 use Rattle.rule.specs.declared.Step.{Step}
 use Rattle.rule.specs.Rule.{State, Asked, final, outcomes}

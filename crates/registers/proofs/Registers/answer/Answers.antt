@@ -1,4 +1,4 @@
-use Rattle.std.proofs.Common.{◌-◌, ltb, ap, ◌∙◌, rules}
+use Rattle.std.proofs.Common.{ltb, ap, ◌∙◌, rules}
 use Rattle.registers.specs.State.{plain}
 use Rattle.registers.proofs.Words.{answer_is}
 use Rattle.registers.proofs.Registers.answer.Goals as goal
