@@ -1,5 +1,5 @@
 -- A course as the screen has it.
-use Rattle.std.specs.Prelude.{◌≡◌, ℕ, ◌/◌, ◌%◌, ◌<◌, Bool, cond, ◌&&◌, ltb, List, Ok, Err, Result, ◌==◌, nat_lt}
+use Rattle.std.specs.Prelude.{◌≡◌, ℕ, ◌/◌, ◌%◌, ◌<◌, Bool, cond, ◌&&◌, List, Ok, Err, Result, ◌==◌, nat_lt}
 use Rattle.words.specs.Bytes.{overlaid, byte_of}
 use Rattle.planes.specs.declared.refusal.Refusal.{Refusal}
 use Rattle.planes.specs.declared.refusal.Refusal.TheVariants.{OffChart, ShortBuffer}
@@ -16,7 +16,7 @@ scan_ruling course size = cond (nat_lt 799 course) (Err OffChart) (cond (nat_lt 
 
 -- course y of a chart in the first 128 bytes of a buffer, all of it off unless `light`
 abbrev pub painted : (light : Bool) → Chart → (y : ℕ) → List ℕ → List ℕ
-painted light c y bytes = overlaid (λ i. ltb i 128) (byte_of (λ x. light && c.on x y)) bytes
+painted light c y bytes = overlaid (λ i. nat_lt i 128) (byte_of (λ x. light && c.on x y)) bytes
 
 -- a refused scan writes nothing
 abbrev pub scanned : Result (Unit {0}) Refusal → (light : Bool) → Chart → (y : ℕ) → List ℕ → List ℕ

@@ -1,5 +1,5 @@
 -- Lift: whether it is accepted, and the bytes that it writes.
-use Rattle.std.specs.Prelude.{◌≡◌, ℕ, ◌+◌, ◌-◌, ◌*◌, ◌/◌, ◌%◌, ◌<◌, Bool, cond, ◌&&◌, ltb, List, Ok, Err, Result, nat_lt, slice_index}
+use Rattle.std.specs.Prelude.{◌≡◌, ℕ, ◌+◌, ◌-◌, ◌*◌, ◌/◌, ◌%◌, ◌<◌, Bool, cond, ◌&&◌, List, Ok, Err, Result, nat_lt, slice_index}
 use Rattle.words.specs.Bit.{bit}
 use Rattle.words.specs.Bytes.{overlaid, byte_of}
 use Rattle.planes.specs.declared.refusal.Refusal.{Refusal}
@@ -37,7 +37,7 @@ lifted_byte c a i = byte_of (lifted_row c a (i / row_bytes a)) (i % row_bytes a)
 
 -- an accepted lift writes the rows, and later bytes stay; a refused one writes nothing
 abbrev pub lifted : Result Area Refusal → Chart → List ℕ → List ℕ
-lifted (Ok a) c bytes = overlaid (λ i. ltb i (pattern_bytes a)) (lifted_byte c a) bytes
+lifted (Ok a) c bytes = overlaid (λ i. nat_lt i (pattern_bytes a)) (lifted_byte c a) bytes
 lifted (Err e) c bytes = bytes
 
 -- ---- the law of `lifted`
