@@ -1,4 +1,4 @@
-// Lists of calls on a new board, held to the stitch rule.
+// Lists of every call that is there, on a new board, held to the stitch rule. The crate `rule` is the smaller one, without lifts, scans and words read ahead.
 #![tactic(auto)]
 
 ghost use Rattle.std.specs.Prelude.{◌≡◌, map};
