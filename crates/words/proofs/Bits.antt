@@ -1,12 +1,14 @@
 -- The laws of `bit`.
 -- Assumes nothing.
-use Rattle.std.proofs.Common.{◌≡◌, ℕ, zero, suc, ◌+◌, ◌-◌, ◌*◌, ◌/◌, ◌%◌, ◌^◌, ◌<◌, ◌≤◌, Bool, true, false, cond, not, ◌&&◌, ◌||◌, eqb, ltb, sym, refl, ap, ◌∙◌, ap₂, inl, inr, le_of_suc-le-suc, not-suc-le-zero, mod-lt, zero-lt-suc, mul_comm, pow-suc, div-one, arith, pow_pos, pow_mono, shr-shr}
+use Rattle.std.proofs.Common.{◌≡◌, ℕ, zero, suc, ◌+◌, ◌-◌, ◌*◌, ◌/◌, ◌%◌, ◌^◌, ◌<◌, ◌≤◌, min, max, Bool, true, false, cond, not, ◌&&◌, ◌||◌, eqb, ltb, sym, refl, ap, ◌∙◌, ap₂, inl, inr, le_of_suc-le-suc, not-suc-le-zero, arith, shr-shr}
 use mathlib.Core.Bool.{xor}
-use native.Mathlib.Nat.{div-eq_of_lt, div-div-eq-div-mul}
-use lib.Bits.{bit_and, bit_or, bit_xor, and_shr, or_shr, xor_shr, and_mod, or_mod, xor_mod, shifted_half, shifted_even, and_mask}
-use lib.Pow.{shl-shr, field, mod-mod-pow, ones_lt}
+use lib.Bits.{bit_and, bit_or, bit_xor}
+use lib.Pow.{shl-shr, ones_lt}
+use Rattle.std.specs.Int.{bit_at}
 use Rattle.std.proofs.lemmas.Bool.{cases_lt, lt-ltb, le-ltb}
 use Rattle.std.proofs.lemmas.Bool.Decides.{nat_tests}
+use Rattle.std.proofs.lemmas.Nat.{shr_split}
+use Rattle.std.proofs.lemmas.Nat.Bits.{bit_at_lowest, bit_at-suc, bit_at-zero, bit_at-lt, bit_at_and, bit_at_or, bit_at_xor, bit_at_ones, bit_at_above, bit_at_cat_low, same_from_bits_below}
 use Rattle.words.specs.Bit.{bit, packed, pack}
 
 half_below : {n : ℕ} (k : ℕ) → n < 2 ^ suc k → n / 2 < 2 ^ k
@@ -14,70 +16,48 @@ half_below k h = omega arith
 
 -- ---- bit by bit: bit 0, and the bits above it
 
-pub bit_zero : (n : ℕ) → bit n 0 ≡ eqb (n % 2) 1
+bit_zero : (n : ℕ) → bit n 0 ≡ eqb (n % 2) 1
 unfolding bit
-bit_zero n = ap (λ (x : ℕ). eqb (x % 2) 1) (div-one n)
+bit_zero n = ap (λ (x : ℕ). eqb x 1) (bit_at_lowest n)
 
-pub bit_suc : (n k : ℕ) → bit n (suc k) ≡ bit (n / 2) k
+bit_suc : (n k : ℕ) → bit n (suc k) ≡ bit (n / 2) k
 unfolding bit
-bit_suc n k = ap (λ (x : ℕ). eqb (x % 2) 1) (ap (λ (p : ℕ). n / p) (pow-suc 2 k ∙ mul_comm (2 ^ k) 2) ∙ sym (div-div-eq-div-mul n 2 (2 ^ k)))
+bit_suc n k = ap (λ (x : ℕ). eqb x 1) (bit_at-suc n k)
 
 -- ---- the operations on words
 
-not_digit {ℓ} : {A : Type ℓ} {x : ℕ} → suc (suc x) < 2 → A
-not_digit h = absurd (not-suc-le-zero (le_of_suc-le-suc (le_of_suc-le-suc h)))
+digit_and : (x y : ℕ) → x < 2 → y < 2 → eqb (min x y) 1 ≡ (eqb x 1 && eqb y 1)
+digit_and x y hx hy = grind (arith, nat_tests)
 
-digit_and : (x y : ℕ) → x < 2 → y < 2 → eqb (bit_and x y) 1 ≡ (eqb x 1 && eqb y 1)
-digit_and zero y hx hy = refl
-digit_and (suc zero) zero hx hy = refl
-digit_and (suc zero) (suc zero) hx hy = refl
-digit_and (suc zero) (suc (suc y)) hx hy = not_digit hy
-digit_and (suc (suc x)) y hx hy = not_digit hx
+digit_or : (x y : ℕ) → x < 2 → y < 2 → eqb (max x y) 1 ≡ (eqb x 1 || eqb y 1)
+digit_or x y hx hy = grind (arith, nat_tests)
 
-digit_or : (x y : ℕ) → x < 2 → y < 2 → eqb (bit_or x y) 1 ≡ (eqb x 1 || eqb y 1)
-digit_or zero y hx hy = refl
-digit_or (suc zero) zero hx hy = refl
-digit_or (suc zero) (suc zero) hx hy = refl
-digit_or (suc zero) (suc (suc y)) hx hy = not_digit hy
-digit_or (suc (suc x)) y hx hy = not_digit hx
-
-digit_xor : (x y : ℕ) → x < 2 → y < 2 → eqb (bit_xor x y) 1 ≡ xor (eqb x 1) (eqb y 1)
+digit_xor : (x y : ℕ) → x < 2 → y < 2 → eqb ((x + y) % 2) 1 ≡ xor (eqb x 1) (eqb y 1)
 unfolding xor
 digit_xor zero zero hx hy = refl
 digit_xor zero (suc zero) hx hy = refl
-digit_xor zero (suc (suc y)) hx hy = not_digit hy
+digit_xor zero (suc (suc y)) hx hy = let none : ⊥ = omega arith in absurd none
 digit_xor (suc zero) zero hx hy = refl
 digit_xor (suc zero) (suc zero) hx hy = refl
-digit_xor (suc zero) (suc (suc y)) hx hy = not_digit hy
-digit_xor (suc (suc x)) y hx hy = not_digit hx
-
-two_pos : zero < 2
-two_pos = zero-lt-suc 1
+digit_xor (suc zero) (suc (suc y)) hx hy = let none : ⊥ = omega arith in absurd none
+digit_xor (suc (suc x)) y hx hy = let none : ⊥ = omega arith in absurd none
 
 pub bit_of_and : (a b k : ℕ) → bit (bit_and a b) k ≡ (bit a k && bit b k)
 unfolding bit
-bit_of_and a b k =
-    ap (λ (x : ℕ). eqb (x % 2) 1) (and_shr a b k) ∙ ap (λ (x : ℕ). eqb x 1) (and_mod (a / 2 ^ k) (b / 2 ^ k) 1)
-    ∙ digit_and (a / 2 ^ k % 2) (b / 2 ^ k % 2) (mod-lt (a / 2 ^ k) two_pos) (mod-lt (b / 2 ^ k) two_pos)
+bit_of_and a b k = ap (λ (x : ℕ). eqb x 1) (bit_at_and a b k) ∙ digit_and (bit_at a k) (bit_at b k) (bit_at-lt a k) (bit_at-lt b k)
 
 pub bit_of_or : (a b k : ℕ) → bit (bit_or a b) k ≡ (bit a k || bit b k)
 unfolding bit
-bit_of_or a b k =
-    ap (λ (x : ℕ). eqb (x % 2) 1) (or_shr a b k) ∙ ap (λ (x : ℕ). eqb x 1) (or_mod (a / 2 ^ k) (b / 2 ^ k) 1)
-    ∙ digit_or (a / 2 ^ k % 2) (b / 2 ^ k % 2) (mod-lt (a / 2 ^ k) two_pos) (mod-lt (b / 2 ^ k) two_pos)
+bit_of_or a b k = ap (λ (x : ℕ). eqb x 1) (bit_at_or a b k) ∙ digit_or (bit_at a k) (bit_at b k) (bit_at-lt a k) (bit_at-lt b k)
 
 pub bit_of_xor : (a b k : ℕ) → bit (bit_xor a b) k ≡ xor (bit a k) (bit b k)
 unfolding bit
-bit_of_xor a b k =
-    ap (λ (x : ℕ). eqb (x % 2) 1) (xor_shr a b k) ∙ ap (λ (x : ℕ). eqb x 1) (xor_mod (a / 2 ^ k) (b / 2 ^ k) 1)
-    ∙ digit_xor (a / 2 ^ k % 2) (b / 2 ^ k % 2) (mod-lt (a / 2 ^ k) two_pos) (mod-lt (b / 2 ^ k) two_pos)
+bit_of_xor a b k = ap (λ (x : ℕ). eqb x 1) (bit_at_xor a b k) ∙ digit_xor (bit_at a k) (bit_at b k) (bit_at-lt a k) (bit_at-lt b k)
 
 -- no number below 2 ^ w has a bit at w or above
 pub bit_above : (w n k : ℕ) → n < 2 ^ w → w ≤ k → bit n k ≡ false
 unfolding bit
-bit_above w n k h le =
-    let small : n < 2 ^ k = omega (arith, pow_mono le) in
-    ap (λ (x : ℕ). eqb (x % 2) 1) (div-eq_of_lt small)
+bit_above w n k h le = ap (λ (x : ℕ). eqb x 1) (bit_at_above n w k h le)
 
 -- `x >> j`
 pub bit_shr : (n j k : ℕ) → bit (n / 2 ^ j) k ≡ bit n (j + k)
@@ -86,26 +66,18 @@ bit_shr n j k = ap (λ (x : ℕ). eqb (x % 2) 1) (shr-shr n j k)
 
 -- `x << j`, before it is cut to its width
 pub bit_shl_low : (a j k : ℕ) → k < j → bit (a * 2 ^ j) k ≡ false
-bit_shl_low a zero k h = absurd (not-suc-le-zero h)
-bit_shl_low a (suc j) zero h = bit_zero (a * 2 ^ suc j) ∙ ap (λ (x : ℕ). eqb x 1) (shifted_even a j)
-bit_shl_low a (suc j) (suc k) h =
-    bit_suc (a * 2 ^ suc j) k ∙ ap (λ (x : ℕ). bit x k) (shifted_half a j) ∙ bit_shl_low a j k (le_of_suc-le-suc h)
+unfolding bit
+bit_shl_low a j k h =
+    let e : a * 2 ^ j ≡ a * 2 ^ j + 0 = omega arith in
+    ap (λ (n : ℕ). eqb (bit_at n k) 1) e ∙ ap (λ (x : ℕ). eqb x 1) (bit_at_cat_low a j 0 k h ∙ bit_at-zero k)
 
 pub bit_shl_high : (a j k : ℕ) → bit (a * 2 ^ j) (j + k) ≡ bit a k
 bit_shl_high a j k = sym (bit_shr (a * 2 ^ j) j k) ∙ ap (λ (x : ℕ). bit x k) (shl-shr a j)
 
 -- a number cut to w bits
-cut : (n j k : ℕ) → bit (n % 2 ^ ((j + 1) + k)) k ≡ bit n k
-unfolding bit
-cut n j k = ap (λ (x : ℕ). eqb (x % 2) 1) (field n (j + 1) k) ∙ ap (λ (x : ℕ). eqb x 1) (mod-mod-pow (n / 2 ^ k) j 1)
-
 pub bit_mod_low : (n w k : ℕ) → k < w → bit (n % 2 ^ w) k ≡ bit n k
-bit_mod_low n w k h =
-    let e : w ≡ ((w - suc k) + 1) + k = omega arith in
-    ap (λ (x : ℕ). bit (n % 2 ^ x) k) e ∙ cut n (w - suc k) k
-
-pub bit_mod_high : (n w k : ℕ) → w ≤ k → bit (n % 2 ^ w) k ≡ false
-bit_mod_high n w k le = bit_above w (n % 2 ^ w) k (mod-lt n (pow_pos w)) le
+unfolding bit
+bit_mod_low n w k h = ap (λ (x : ℕ). eqb x 1) (sym (bit_at_cat_low (n / 2 ^ w) w (n % 2 ^ w) k h) ∙ ap (λ (m : ℕ). bit_at m k) (shr_split n w))
 
 -- `!x` at w bits
 other_digit : (x y : ℕ) → x % 2 + y % 2 ≡ 1 → eqb (x % 2) 1 ≡ not (eqb (y % 2) 1)
@@ -123,14 +95,13 @@ bit_of_not (suc w) n (suc k) small h =
 
 -- ---- numbers with the same bits are the same
 
+same_digit : (x y : ℕ) → x < 2 → y < 2 → eqb x 1 ≡ eqb y 1 → x ≡ y
+same_digit x y hx hy e = grind (arith, nat_tests)
+
 pub same_from_bits : (w a b : ℕ) → a < 2 ^ w → b < 2 ^ w → ((k : ℕ) → k < w → bit a k ≡ bit b k) → a ≡ b
-same_from_bits zero a b ha hb same = omega arith
-same_from_bits (suc w) a b ha hb same =
-    let low : eqb (a % 2) 1 ≡ eqb (b % 2) 1 = sym (bit_zero a) ∙ same 0 (omega arith) ∙ bit_zero b in
-    let high : a / 2 ≡ b / 2 =
-    same_from_bits w (a / 2) (b / 2) (half_below w ha) (half_below w hb)
-    (λ k h. sym (bit_suc a k) ∙ same (suc k) (omega arith) ∙ bit_suc b k) in
-    grind (arith, nat_tests)
+unfolding bit
+same_from_bits w a b ha hb same =
+    same_from_bits_below w a b ha hb (λ k h. same_digit (bit_at a k) (bit_at b k) (bit_at-lt a k) (bit_at-lt b k) (same k h))
 
 -- ---- a number made of bits
 
@@ -203,10 +174,12 @@ bit_mux w c a b j small h =
 
 -- all ones, and none
 pub bit_none : (k : ℕ) → bit 0 k ≡ false
-bit_none k = bit_above 0 0 k (omega arith) (omega arith)
+unfolding bit
+bit_none k = ap (λ (x : ℕ). eqb x 1) (bit_at-zero k)
 
 pub bit_ones : (w k : ℕ) → k < w → bit (2 ^ w - 1) k ≡ true
-bit_ones w k h = ap (λ (x : ℕ). bit x k) (omega arith) ∙ bit_of_not w 0 k (pow_pos w) h ∙ ap not (bit_none k)
+unfolding bit
+bit_ones w k h = ap (λ (x : ℕ). eqb x 1) (bit_at_ones w k h)
 
 pub bit_full : (w k : ℕ) → bit (2 ^ w - 1) k ≡ ltb k w
 bit_full w k =
@@ -215,35 +188,10 @@ bit_full w k =
       | inr b ↦ bit_above w (2 ^ w - 1) k (ones_lt w) b ∙ sym (le-ltb k w b)
     ]
 
--- `x & 0xffff` at 16 bits
-pub bit_low : (n w k : ℕ) → k < w → bit (bit_and n (2 ^ w - 1)) k ≡ bit n k
-bit_low n w k h = ap (λ (x : ℕ). bit x k) (and_mask n w) ∙ bit_mod_low n w k h
-
-pub or_false : (t : Bool) → (t || false) ≡ t
-or_false true = refl
-or_false false = refl
-
--- `(high << h) | low`, at w bits: the bits of low, and above them those of high
-pub bit_joined_low : (h w high low k : ℕ) → k < h → h ≤ w → bit (bit_or (high * 2 ^ h % 2 ^ w) low) k ≡ bit low k
-bit_joined_low h w high low k here wide =
-    bit_of_or (high * 2 ^ h % 2 ^ w) low k
-    ∙ ap (λ t. t || bit low k) (bit_mod_low (high * 2 ^ h) w k (omega arith) ∙ bit_shl_low high h k here)
-
-pub bit_joined_high : (h w high low k : ℕ) → low < 2 ^ h → h + k < w → bit (bit_or (high * 2 ^ h % 2 ^ w) low) (h + k) ≡ bit high k
-bit_joined_high h w high low k small here =
-    bit_of_or (high * 2 ^ h % 2 ^ w) low (h + k)
-    ∙ ap₂ ◌||◌ (bit_mod_low (high * 2 ^ h) w (h + k) here ∙ bit_shl_high high h k) (bit_above h low (h + k) small (omega arith))
-    ∙ or_false (bit high k)
-
--- a field that is cut out: `x >> j & 0xffff` at 16 bits
-pub bit_field : (n j w k : ℕ) → k < w → bit (bit_and (n / 2 ^ j) (2 ^ w - 1)) k ≡ bit n (j + k)
-bit_field n j w k h = ap (λ (x : ℕ). bit x k) (and_mask (n / 2 ^ j) w) ∙ bit_mod_low (n / 2 ^ j) w k h ∙ bit_shr n j k
-
 -- two bytes as one number
 pub bit_byte_low : (a b k : ℕ) → k < 8 → bit (a * 256 + b) k ≡ bit b k
-bit_byte_low a b k h =
-    let e : (a * 256 + b) % 2 ^ 8 ≡ b % 2 ^ 8 = omega arith in
-    sym (bit_mod_low (a * 256 + b) 8 k h) ∙ ap (λ (n : ℕ). bit n k) e ∙ bit_mod_low b 8 k h
+unfolding bit
+bit_byte_low a b k h = ap (λ (x : ℕ). eqb x 1) (bit_at_cat_low a 8 b k h)
 
 pub bit_byte_high : (a b k : ℕ) → b < 256 → bit (a * 256 + b) (8 + k) ≡ bit a k
 bit_byte_high a b k small =

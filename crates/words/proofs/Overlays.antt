@@ -1,8 +1,10 @@
 -- The laws of `overlaid`, and the bytes of words.
 -- Assumes nothing.
-use Rattle.std.proofs.Common.{◌≡◌, ℕ, zero, suc, ◌+◌, ◌-◌, ◌*◌, ◌/◌, ◌%◌, ◌<◌, ◌≤◌, Bool, true, false, cond, ◌||◌, eqb, ltb, List, [], ◌∷◌, length, get_or, set, sym, refl, ap, ◌∙◌, ap₂, inl, inr, arith}
+use Rattle.std.proofs.Common.{◌≡◌, ℕ, zero, suc, ◌+◌, ◌-◌, ◌*◌, ◌/◌, ◌%◌, ◌^◌, ◌<◌, ◌≤◌, Bool, true, false, cond, ◌||◌, eqb, ltb, List, [], ◌∷◌, length, get_or, set, sym, refl, ap, ◌∙◌, ap₂, inl, inr, arith}
 use Rattle.std.proofs.lemmas.Bool.{cases_eq, eqb-true, eq-eqb, ne_eqb, lt-ltb}
 use Rattle.std.proofs.lemmas.Bool.Decides.{nat_tests}
+use Rattle.std.specs.Int.{w16, to_be_bytes}
+use borrow.Rule.Slice.PartMut.{put_mid}
 use Rattle.words.specs.Bit.{bit, packed, pack}
 use Rattle.words.specs.Bytes.{overlaid_from, overlaid, byte_of, half, stored}
 use Rattle.words.proofs.Bits.{same_from_bits, packed_lt, bit_packed, bit_shr, bit_mod_low, bit_pack, pack_lt, packed_same}
@@ -10,8 +12,8 @@ use Rattle.words.proofs.Bits.{same_from_bits, packed_lt, bit_packed, bit_shr, bi
 -- ---- from place i on
 choose_same : (p q : Bool) (m n x : ℕ) → p ≡ q → (p ≡ true → m ≡ n) → cond p m x ≡ cond q n x
 choose_same true true m n x e same = same refl
-choose_same true false m n x e same = let z : ◌≡◌ {A = ℕ} 0 1 = cc in omega arith
-choose_same false true m n x e same = let z : ◌≡◌ {A = ℕ} 0 1 = cc in omega arith
+choose_same true false m n x e same = cc
+choose_same false true m n x e same = cc
 choose_same false false m n x e same = refl
 
 same_from : (i : ℕ) (p q : ℕ → Bool) (f g : ℕ → ℕ) (xs : List ℕ) →
@@ -100,8 +102,8 @@ halves at word =
 both_halves : (at j : ℕ) → (eqb j (2 * at) || eqb j (2 * at + 1)) ≡ eqb (j / 2) at
 both_halves at j = grind (arith, nat_tests)
 
-pub store_set : (at word : ℕ) (xs : List ℕ) → at < length xs / 2 → set (set xs (2 * at) (word / 256)) (2 * at + 1) (word % 256) ≡ stored at word xs
-store_set at word xs room =
+pub store_sets : (at word : ℕ) (xs : List ℕ) → at < length xs / 2 → set (set xs (2 * at) (word / 256)) (2 * at + 1) (word % 256) ≡ stored at word xs
+store_sets at word xs room =
     let f : ℕ → ℕ = half word in
     let (high, low) = halves at word in
     ap₂ (λ (a b : ℕ). set (set xs (2 * at) a) (2 * at + 1) b) (sym high) (sym low)
@@ -110,6 +112,22 @@ store_set at word xs room =
     ∙ overlaid_more (λ j. eqb j (2 * at + 1)) (λ j. eqb j (2 * at)) f xs
     ∙ overlaid_same (λ j. eqb j (2 * at) || eqb j (2 * at + 1)) (λ j. eqb (j / 2) at) f f xs (λ j _. both_halves at j) (λ j _ _. refl)
     ∙ ap (λ (b : Bool). cond b (overlaid (λ i. eqb (i / 2) at) f xs) xs) (sym (lt-ltb at (length xs / 2) room))
+
+two_set : (xs : List ℕ) (k a b : ℕ) → k + 1 < length xs → put_mid k 2 xs (a ∷ b ∷ []) ≡ set (set xs k a) (k + 1) b
+two_set [] k a b h = let none : ⊥ = omega arith in absurd none
+two_set (x ∷ []) k a b h = let none : ⊥ = omega arith in absurd none
+two_set (x ∷ y ∷ xs) zero a b h = refl
+two_set (x ∷ y ∷ xs) (suc k) a b h =
+    let up : suc (k + 1) ≡ suc k + 1 = omega arith in
+    ap (λ (l : List ℕ). x ∷ l) (two_set (y ∷ xs) k a b (omega arith)) ∙ ap (λ (n : ℕ). set (x ∷ set (y ∷ xs) k a) n b) up
+
+-- the two bytes of a word, put in at once
+pub store_part : (at word n : ℕ) (xs part : List ℕ) → at < length xs / 2 → word < 2 ^ 16 → n ≡ 2 → part ≡ to_be_bytes w16 word → put_mid (2 * at) n xs part ≡ stored at word xs
+store_part at word n xs part room small two is =
+    let high : word / 256 % 256 ≡ word / 256 = omega arith in
+    ap₂ (λ (m : ℕ) (l : List ℕ). put_mid (2 * at) m xs l) two is
+    ∙ ap (λ (a : ℕ). put_mid (2 * at) 2 xs (a ∷ word % 256 ∷ [])) high
+    ∙ two_set xs (2 * at) (word / 256) (word % 256) (omega arith) ∙ store_sets at word xs room
 
 -- a word that is stored beside what was stored before
 pub store_more : (at word : ℕ) (p q : ℕ → Bool) (f : ℕ → ℕ) (xs : List ℕ) → at < length xs / 2 →

@@ -3,8 +3,9 @@
 use Rattle.std.proofs.Common.{◌≡◌, ℕ, ◌+◌, ◌-◌, ◌*◌, ◌/◌, ◌%◌, ◌^◌, ◌<◌, Bool, false, cond, ◌&&◌, ◌||◌, eqb, ap, ◌∙◌, ap₂, inl, inr, arith}
 use lib.Bits.{bit_or}
 use Rattle.std.proofs.lemmas.Bool.{cases_eq, eq-eqb, ne_eqb}
+use Rattle.std.proofs.Math.Bool.{or-false}
 use Rattle.words.specs.Bit.{bit, packed}
-use Rattle.words.proofs.Bits.{bit_packed, digit_of, bit_of_or, bit_mod_low, bit_shl_high, bit_shl_low, bit_shr, or_false}
+use Rattle.words.proofs.Bits.{bit_packed, digit_of, bit_of_or, bit_mod_low, bit_shl_high, bit_shl_low, bit_shr}
 
 -- the sums that the program makes
 spread_sum : (b : ℕ) → (b / 16 % 2 + b / 32 % 2 * 4 + b / 64 % 2 * 16 + b / 128 % 2 * 64) * 256 + (b % 2 + b / 2 % 2 * 4 + b / 4 % 2 * 16 + b / 8 % 2 * 64)
@@ -61,7 +62,7 @@ module _ (f s even odd : ℕ) (first : (k : ℕ) → k < 16 → bit f k ≡ (eqb
       ∙ ap₂ ◌||◌
       (bit_mod_low (f * 2 ^ 1) 16 (15 - i) (omega arith) ∙ ap (bit (f * 2 ^ 1)) up ∙ bit_shl_high f 1 (14 - i) ∙ first (14 - i) (omega arith) ∙ ap₂ (λ (t : Bool) (n : ℕ). t && bit even n) (eq-eqb ((14 - i) % 2) 0 whole) place)
       (second (15 - i) (omega arith) ∙ ap (λ (t : Bool). t && bit odd ((15 - i) / 2)) (ne_eqb ((15 - i) % 2) 0 odd_place))
-      ∙ or_false (bit even (7 - i / 2))
+      ∙ or-false (bit even (7 - i / 2))
 
   low_off : (i : ℕ) → i < 16 → (i % 2 ≡ 0 → ⊥) → bit (f * 2 ^ 1 % 2 ^ 16) (15 - i) ≡ false
   low_off i h e =

@@ -6,8 +6,9 @@ use lib.Bits.{bit_and, bit_or, bit_xor, and_mask}
 use lib.Pow.{shr_le}
 use Rattle.std.proofs.lemmas.Bool.Decides.{nat_tests}
 use Rattle.std.proofs.lemmas.Bool.{lt-ltb, le-ltb, le-leb, lt-leb, cond-true, cond-false, cases_lt}
-use Rattle.words.specs.Bit.{bit, across, index, placed}
-use Rattle.words.proofs.Bits.{bit_above, bit_of_not, bit_shr, bit_shl_low, bit_shl_high, bit_mod_low, bit_of_and, bit_of_or, bit_of_xor, bit_full, or_false}
+use Rattle.std.proofs.Math.Bool.{or-false}
+use Rattle.words.specs.Bit.{bit, across, placed}
+use Rattle.words.proofs.Bits.{bit_above, bit_of_not, bit_shr, bit_shl_low, bit_shl_high, bit_mod_low, bit_of_and, bit_of_or, bit_of_xor, bit_full}
 
 pub across_left : (l r i : ℕ) → i < 16 → across l r i ≡ bit l (15 - i)
 unfolding across
@@ -65,18 +66,6 @@ pub bit_test : (n k : ℕ) → bit n k ≡ eqb (bit_and (n / 2 ^ k) 1) 1
 unfolding bit
 bit_test n k = sym (ap (λ (x : ℕ). eqb x 1) (and_mask (n / 2 ^ k) 1))
 
--- a tree of seven choices
-pub choices : (g : ℕ → Bool) (m s d : Bool)
-    → cond m (cond s (cond d (g 7) (g 6)) (cond d (g 5) (g 4))) (cond s (cond d (g 3) (g 2)) (cond d (g 1) (g 0))) ≡ g (index m s d)
-choices g true true true = refl
-choices g true true false = refl
-choices g true false true = refl
-choices g true false false = refl
-choices g false true true = refl
-choices g false true false = refl
-choices g false false true = refl
-choices g false false false = refl
-
 -- `(left << s) | (right >> (16 - s))`
 pub bit_across : (l r s k : ℕ) → r < 2 ^ 16 → 0 < s → s < 16 → k < 16 → bit (bit_or (l * 2 ^ s % 2 ^ 16) (r / 2 ^ (16 - s))) (15 - k) ≡ across l r (s + k)
 bit_across l r s k small some few h =
@@ -89,7 +78,7 @@ bit_across l r s k small some few h =
       | inl a ↦
           let e : 15 - k ≡ s + (15 - (s + k)) = omega arith in
           ap₂ ◌||◌ (cut ∙ ap (bit (l * 2 ^ s)) e ∙ bit_shl_high l s (15 - (s + k))) (right ∙ bit_above 16 r (31 - (s + k)) small (omega arith))
-          ∙ or_false (bit l (15 - (s + k))) ∙ sym (across_left l r (s + k) a)
+          ∙ or-false (bit l (15 - (s + k))) ∙ sym (across_left l r (s + k) a)
       | inr b ↦ ap₂ ◌||◌ (cut ∙ bit_shl_low l s (15 - k) (omega arith)) right ∙ sym (across_right l r (s + k) b)
     ]
 

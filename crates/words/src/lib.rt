@@ -4,7 +4,7 @@
 ghost use Rattle.std.specs.Prelude.{◌≡◌, ℕ, ◌+◌, ◌-◌, ◌*◌, ◌/◌, ◌%◌, ◌<◌, ◌&&◌, if◌then◌else◌, ◌==◌, nat_eq, nat_lt};
 ghost use Rattle.words.specs.Bit.{bit, across, index, placed};
 
-pub use storing::store;
+pub use storing::{joined, store};
 pub use turning::reverse;
 
 pub mod storing;
@@ -72,6 +72,7 @@ pub fn lay(value: u16, from: u16) -> (u16, u16)
     ensures { (i : ℕ) → i < 32 → across result.0 result.1 i ≡ placed value (from % 16) i }
 {
     let both = u32::from(value) << (16 - from % 16);
+    // Halves by `as`: each fits, and `try_from` would bring an error that cannot come.
     ((both >> 16) as u16, (both & 0xffff) as u16)
 }
 
@@ -79,14 +80,10 @@ pub fn lay(value: u16, from: u16) -> (u16, u16)
 pub fn ones(count: u16) -> u16
     ensures { (k : ℕ) → k < 16 → bit result (15 - k) ≡ nat_lt k count }
 {
-    if count < 16 {
-        !(0xffff >> count)
-    } else {
-        0xffff
-    }
+    !u16::MAX.checked_shr(u32::from(count)).unwrap_or(0)
 }
 
-// The eight bits of a byte, one at every other place of a word, the last at bit 0.
+// The eight bits of a byte, one at every other place of a word, the last at bit 0. By sums: no method of the library spreads bits.
 fn spread_out(b: u8) -> u16
     ensures { (k : ℕ) → k < 16 → bit result k ≡ (k % 2 == 0 && bit b (k / 2)) }
 {
@@ -96,7 +93,7 @@ fn spread_out(b: u8) -> u16
     high * 256 + low
 }
 
-// The bits at every other place of a word, from bit 0 on, as a byte.
+// The bits at every other place of a word, from bit 0 on, as a byte. By sums, likewise; the last sum fits a byte.
 fn draw_in(v: u16) -> u8
     ensures { (j : ℕ) → j < 8 → bit result j ≡ bit v (2 * j) }
 {

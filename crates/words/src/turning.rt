@@ -2,7 +2,7 @@
 ghost use Rattle.std.specs.Prelude.{◌≡◌, ℕ, ◌-◌, ◌<◌};
 ghost use Rattle.words.specs.Bit.{bit};
 
-// Entry b is b with its eight bits in the other order.
+// Entry b is b with its eight bits in the other order. A table, and not `reverse_bits`, is a rule of the project.
 #[rattlefmt::skip]
 const REVERSED: [u8; 256] = [
     0, 128, 64, 192, 32, 160, 96, 224, 16, 144, 80, 208, 48, 176, 112, 240,
@@ -27,14 +27,13 @@ const REVERSED: [u8; 256] = [
 fn reverse_byte(b: u8) -> u8
     ensures { (k : ℕ) → k < 8 → bit result k ≡ bit b (7 - k) }
 {
-    REVERSED[b as usize]
+    REVERSED[usize::from(b)]
 }
 
 // The sixteen bits of a word in the other order.
 pub fn reverse(word: u16) -> u16
     ensures { (k : ℕ) → k < 16 → bit result k ≡ bit word (15 - k) }
 {
-    let high = reverse_byte((word % 256) as u8);
-    let low = reverse_byte((word / 256) as u8);
-    high as u16 * 256 + low as u16
+    let [high, low] = word.to_be_bytes();
+    u16::from_be_bytes([reverse_byte(low), reverse_byte(high)])
 }

@@ -1,6 +1,6 @@
-use Rattle.std.proofs.Common.{arith}
-use Rattle.words.proofs.Overlays.{store_set}
+use Rattle.std.proofs.Common.{rules}
+use Rattle.words.proofs.Overlays.{store_part}
 use Rattle.words.proofs.storing.store.Goals as goal
 
 pub returns-then-at-bytes : goal.returns-then-at-bytes
-returns-then-at-bytes c = store_set c.args.at c.args.word c.args.bytes.now (omega arith)
+returns-then-at-bytes c = search (rules, store_part)

@@ -1,4 +1,4 @@
-use Rattle.std.proofs.Common.{◌≡◌, ℕ, ◌+◌, ◌-◌, ◌*◌, ◌/◌, ◌%◌, ◌^◌, ◌<◌, ap, ◌∙◌, inl, inr, arith}
+use Rattle.std.proofs.Common.{◌≡◌, ℕ, ◌+◌, ◌-◌, ◌*◌, ◌/◌, ◌%◌, ◌^◌, ◌<◌, List, get_or, ap, ◌∙◌, inl, inr, arith}
 use Rattle.std.proofs.lemmas.Bool.{cases_lt}
 use Rattle.words.specs.Bit.{bit}
 use Rattle.words.proofs.Bits.{bit_byte_low, bit_byte_high, bit_shr, bit_mod_low}
@@ -22,4 +22,10 @@ turned word high low small is-high is-low k h =
     ]
 
 pub returns : goal.returns
-returns c = turned c.args.word _ _ c.reverse_byte-low.type_inv c.reverse_byte-high.ensures c.reverse_byte-low.ensures
+returns c k h =
+    let high : get_or c.to_be_bytes.result 0 0 ≡ c.args.word / 2 ^ 8 = omega (arith, ap (λ (l : List ℕ). get_or l 0 0) c.to_be_bytes.ensures) in
+    let low : get_or c.to_be_bytes.result 1 0 ≡ c.args.word % 2 ^ 8 = ap (λ (l : List ℕ). get_or l 1 0) c.to_be_bytes.ensures in
+    ap (λ (n : ℕ). bit n k) c.from_be_bytes.ensures
+    ∙ turned c.args.word _ _ c.reverse_byte-2.type_inv
+    (λ j l. c.reverse_byte.ensures j l ∙ ap (λ (n : ℕ). bit n (7 - j)) low)
+    (λ j l. c.reverse_byte-2.ensures j l ∙ ap (λ (n : ℕ). bit n (7 - j)) high) k h

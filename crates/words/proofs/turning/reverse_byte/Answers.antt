@@ -9,8 +9,8 @@ use Rattle.words.proofs.turning.reverse_byte.Goals as goal
 pub returns : goal.returns
 unfolding bit packed
 returns c k h =
-    let b : ℕ = c.args.b in
+    let b : ℕ = c.from.result in
     let within : b < 256 = omega arith in
     let rule : bit (get_or (map (λ (n : ℕ). packed 8 (bit n)) (range_with_len 0 256)) b 0) k ≡ bit b (7 - k) =
     ap (λ (x : ℕ). bit x k) (get_or-map-range_with_len (λ (n : ℕ). packed 8 (bit n)) 0 256 b b 0 within (zero-add b)) ∙ bit_packed 8 (bit b) k (7 - k) (omega arith) in
-    rule
+    rule ∙ ap (λ (n : ℕ). bit n (7 - k)) c.from.ensures
