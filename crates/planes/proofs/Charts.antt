@@ -89,11 +89,23 @@ on_from h w y p q = rw (lt-ltb w 64 p, lt-ltb y h q)
 
 pub ok_tells : {V : Type 0} (b : Bool) (v r : V) → ◌≡◌ {A = Result V Refusal} (Ok r) (cond b (Ok v) (Err OffPlane)) → (b ≡ true) × (r ≡ v)
 ok_tells true v r e = (refl, cc)
-ok_tells false v r e = let z : ◌≡◌ {A = ℕ} 0 1 = cc in absurd (let n : ⊥ = omega arith in n)
+ok_tells false v r e = absurd (cc)
 
 pub err_tells : {V : Type 0} (b : Bool) (v : V) (x : Refusal) → ◌≡◌ {A = Result V Refusal} (Err x) (cond b (Ok v) (Err OffPlane)) → (b ≡ false) × (x ≡ OffPlane)
-err_tells true v x e = let z : ◌≡◌ {A = ℕ} 0 1 = cc in absurd (let n : ⊥ = omega arith in n)
+err_tells true v x e = absurd (cc)
 err_tells false v x e = (refl, cc)
+
+-- the place of a word that is accepted, on a plane of k courses
+pub record Placed (k w y place r : ℕ) : Type 0 where
+  pub few : w < 64
+  pub low : y < k
+  pub is : r ≡ place
+
+pub placed : (h k w y place r : ℕ) → h ≡ k → Ok r ≡ answer h w y place → Placed k w y place r
+placed h k w y place r same e =
+    let (on, is) = ok_tells (on_plane h w y) place r e in
+    let (few, low) = on_parts h w y on in
+    record { few = few; low = omega arith; is = is }
 
 pub on_wide : (h w y : ℕ) → 64 ≤ w → on_plane h w y ≡ false
 unfolding on_plane
@@ -118,10 +130,6 @@ pub read_window : (h : ℕ) (f : ℕ → ℕ → Bool) (w y v : ℕ) → Ok v �
 read_window h f w y v e = (ok_tells (on_plane h w y) (window (chart h f) (16 * w) y) v e).1
 
 -- ---- what a plane owes
-pub on_high : (h w y : ℕ) → h ≤ y → on_plane h w y ≡ false
-unfolding on_plane
-on_high h w y l = and_right (ltb w 64) (ltb y h) (le-ltb y h l)
-
 pub answer_on : {V : Type 0} (h w y : ℕ) (v n : V) → w < 64 → y < h → n ≡ v → Ok n ≡ answer h w y v
 answer_on h w y v n p q e = rw (on_from h w y p q) (ap Ok e)
 
@@ -143,6 +151,9 @@ written_off h f w z n off =
         let few : w < 64 = omega (arith, eqb-true (x / 16) w p, ltb-true x 1024 l) in
         let low : z < h = omega (arith, eqb-true y z q, ltb-true y h m) in
         absurd (true≢false (sym (on_from h w z few low) ∙ off))
+
+pub refused_written : {V : Type 0} (h k : ℕ) (f : ℕ → ℕ → Bool) (w z n : ℕ) (v : V) (x : Refusal) → h ≡ k → Err x ≡ answer h w z v → chart k f ≡ written w z n (chart k f)
+refused_written h k f w z n v x same e = written_off k f w z n (ap (λ (m : ℕ). on_plane m w z) (sym same) ∙ (err_tells (on_plane h w z) v x e).0)
 
 -- on the plane a chart shows its stitches
 pub chart_at : (h : ℕ) (f : ℕ → ℕ → Bool) (x y : ℕ) → x < 1024 → y < h → (chart h f).on x y ≡ f x y

@@ -1,28 +1,31 @@
 // Why a call is refused.
-ghost use Rattle.std.specs.Prelude.{◌≡◌};
+ghost use Rattle.std.specs.Prelude.{◌≡◌, Some, decimal};
 ghost use Rattle.planes.specs.Refusals.{number};
+
+use std::error::Error;
+use std::fmt;
 
 #[derive(Clone, Copy, PartialEq, Eq, Debug)]
 pub enum Refusal {
     // a place that is off the chart; for a scan, a course that is not visible
-    OffChart,
+    OffChart = 1,
     // a side of length 0
-    Empty,
+    Empty = 2,
     // a rectangle that passes the chart's edge
-    TooLarge,
-    ShortBuffer,
+    TooLarge = 3,
+    ShortBuffer = 4,
     // an odd address, or one of more than twenty bits
-    BadAddress,
-    OtherUnit,
-    WordUnderWay,
-    NoWordUnderWay,
+    BadAddress = 5,
+    OtherUnit = 6,
+    WordUnderWay = 7,
+    NoWordUnderWay = 8,
     // a word that a plane does not have
-    OffPlane,
-    JobTooLong,
+    OffPlane = 9,
+    JobTooLong = 10,
     // a field that runs past the job's end
-    Truncated,
-    UnknownTag,
-    WrongLength,
+    Truncated = 11,
+    UnknownTag = 12,
+    WrongLength = 13,
 }
 
 impl Refusal {
@@ -30,20 +33,18 @@ impl Refusal {
     pub fn number(self) -> u8
         ensures { result ≡ number self }
     {
-        match self {
-            Refusal::OffChart => 1,
-            Refusal::Empty => 2,
-            Refusal::TooLarge => 3,
-            Refusal::ShortBuffer => 4,
-            Refusal::BadAddress => 5,
-            Refusal::OtherUnit => 6,
-            Refusal::WordUnderWay => 7,
-            Refusal::NoWordUnderWay => 8,
-            Refusal::OffPlane => 9,
-            Refusal::JobTooLong => 10,
-            Refusal::Truncated => 11,
-            Refusal::UnknownTag => 12,
-            Refusal::WrongLength => 13,
-        }
+        self as u8
     }
 }
+
+// By its number.
+impl fmt::Display for Refusal {
+    ghost output = { λ r. Some (decimal (number r)) };
+
+    fn fmt<W: fmt::Write>(&self, f: &mut fmt::Formatter<W>) -> fmt::Result {
+        let number = self.number();
+        write!(f, "{number}")
+    }
+}
+
+impl Error for Refusal {}

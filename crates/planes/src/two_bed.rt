@@ -1,23 +1,15 @@
 // A plane in two lent buffers, as a machine has two beds: even needles in front, odd ones behind.
-ghost use Rattle.std.specs.Prelude.{◌≡◌, ◌/◌, min, [], ◌∷◌};
+ghost use Rattle.std.specs.Prelude.{◌≡◌, [], ◌∷◌};
 ghost use Rattle.planes.specs.BedLayout.{bed_tall, bed_height, bed_on, bed_spare};
 
-use crate::{Course, Plane, Refusal, WordNumber};
+use crate::layout::capped;
+use crate::{Plane, Refusal, Stretch};
 
+// Two buffers side by side are what the machine has, a rule of the project.
 #[derive(Drop)]
 pub struct TwoBed<'f, 'b> {
     front: &'f mut [u8],
     back: &'b mut [u8],
-}
-
-// How many whole courses of 64 bytes both beds have, of the 1024 that a plane may have.
-fn whole_courses(front: usize, back: usize) -> u16
-    ensures { result ≡ min 1024 (min (front / 64) (back / 64)) }
-{
-    let f = front / 64;
-    let b = back / 64;
-    let n = if f < b { f } else { b };
-    if n < 1024 { n as u16 } else { 1024 }
 }
 
 impl<'f, 'b> TwoBed<'f, 'b> {
@@ -27,6 +19,13 @@ impl<'f, 'b> TwoBed<'f, 'b> {
         ensures back { (result.back.now ≡ back.old) × (result.back.ghost_name ≡ back.entry.ghost_name) }
     {
         TwoBed { front, back }
+    }
+
+    // How many whole courses of 64 bytes both beds have, of the 1024 that a plane may have.
+    fn tall(&self) -> u16
+        ensures { result ≡ bed_height self.now.front.now self.now.back.now }
+    {
+        capped(self.front.len().min(self.back.len()) / 64)
     }
 }
 
@@ -39,33 +38,19 @@ impl<'f, 'b> Plane for TwoBed<'f, 'b> {
     ghost rest = { λ p. (p.front.ghost_name ∷ bed_spare (bed_height p.front.now p.back.now) p.front.now) ∷ (p.back.ghost_name ∷ bed_spare (bed_height p.front.now p.back.now) p.back.now) ∷ [] };
 
     fn courses(&mut self) -> u16 {
-        whole_courses(self.front.len(), self.back.len())
+        self.tall()
     }
 
-    fn read(&mut self, word: WordNumber, course: Course) -> Result<u16, Refusal> {
-        let tall = whole_courses(self.front.len(), self.back.len());
-        if word.0 >= 64 {
-            return Err(Refusal::OffPlane);
-        }
-        if course.0 >= tall {
-            return Err(Refusal::OffPlane);
-        }
-        let at = 64 * course.0 as usize + word.0 as usize;
-        Ok(words::interleave(self.front[at], self.back[at]))
+    fn read(&mut self, at: Stretch) -> Result<u16, Refusal> {
+        let index = at.index(self.tall())?;
+        Ok(words::interleave(self.front[index], self.back[index]))
     }
 
-    fn write(&mut self, word: WordNumber, course: Course, value: u16) -> Result<(), Refusal> {
-        let tall = whole_courses(self.front.len(), self.back.len());
-        if word.0 >= 64 {
-            return Err(Refusal::OffPlane);
-        }
-        if course.0 >= tall {
-            return Err(Refusal::OffPlane);
-        }
-        let at = 64 * course.0 as usize + word.0 as usize;
+    fn write(&mut self, at: Stretch, value: u16) -> Result<(), Refusal> {
+        let index = at.index(self.tall())?;
         let (even, odd) = words::deal(value);
-        self.front[at] = even;
-        self.back[at] = odd;
+        self.front[index] = even;
+        self.back[index] = odd;
         Ok(())
     }
 }

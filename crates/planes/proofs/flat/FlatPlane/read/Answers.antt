@@ -1,17 +1,15 @@
-use Rattle.std.proofs.Common.{refl, arith}
-use Rattle.planes.proofs.Charts.{answer_on, answer_off, on_wide, on_high}
-use Rattle.planes.proofs.FlatBytes.{flat_read}
+use Rattle.std.proofs.Common.{arith}
+use Rattle.planes.proofs.Charts.{placed, answer_on}
+use Rattle.planes.proofs.FlatBytes.{flat_room, flat_read}
 use Rattle.planes.proofs.flat.FlatPlane.read.Goals as goal
 
-pub returns-then-word-ge64 : goal.returns-then-word-ge64
-returns-then-word-ge64 c = record { told = answer_off _ _ _ _ (on_wide _ _ _ (omega arith)); same = refl; rest = refl }
+pub bounds-self-first : goal.bounds-self-first
+bounds-self-first c = omega (arith, flat_room c.args.self.now.bytes.now _ _ _ (placed _ _ _ _ _ _ c.tall.ensures c.in_ok-first.ensures))
 
-pub returns-then-course-tall : goal.returns-then-course-tall
-returns-then-course-tall c = record { told = answer_off _ _ _ _ (on_high _ _ _ (omega arith)); same = refl; rest = refl }
+pub bounds-self-first-2 : goal.bounds-self-first-2
+bounds-self-first-2 c = omega (arith, flat_room c.args.self.now.bytes.now _ _ _ (placed _ _ _ _ _ _ c.tall.ensures c.in_ok-first.ensures))
 
-pub returns : goal.returns
-returns c = record {
-  told = answer_on _ _ _ _ _ (omega arith) (omega arith) (flat_read _ _ _ (omega arith) (omega arith) (omega arith) (omega arith));
-  same = refl;
-  rest = refl;
-}
+pub returns-clause-told : goal.returns-clause-told
+returns-clause-told c =
+    let on = placed _ _ _ _ _ _ c.tall.ensures c.in_ok-first.ensures in
+    answer_on _ _ _ _ _ on.few on.low (flat_read _ _ _ _ _ on (omega arith) (omega arith) c.joined.ensures)

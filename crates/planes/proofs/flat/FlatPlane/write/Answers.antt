@@ -1,21 +1,15 @@
-use Rattle.std.proofs.Common.{ℕ, List, [], ◌∷◌, refl, ap, arith}
-use Rattle.planes.proofs.Charts.{answer_on, answer_off, on_wide, on_high, written_off}
+use Rattle.std.proofs.Common.{ℕ, List, [], ◌∷◌, ap}
+use Rattle.planes.proofs.Charts.{placed, refused_written}
 use Rattle.planes.proofs.FlatBytes.{flat_write, flat_spare_stays}
 use Rattle.planes.proofs.flat.FlatPlane.write.Goals as goal
 
-pub returns-then-word-ge64 : goal.returns-then-word-ge64
-returns-then-word-ge64 c =
-    let off = on_wide _ _ _ (omega arith) in
-    record { told = answer_off _ _ _ _ off; put = written_off _ _ _ _ _ off; rest = refl }
+pub returns-in_err-index-clause-put : goal.returns-in_err-index-clause-put
+returns-in_err-index-clause-put c = refused_written _ _ _ _ _ _ _ _ c.tall.ensures c.in_err-index.ensures
 
-pub returns-then-course-tall : goal.returns-then-course-tall
-returns-then-course-tall c =
-    let off = on_high _ _ _ (omega arith) in
-    record { told = answer_off _ _ _ _ off; put = written_off _ _ _ _ _ off; rest = refl }
+pub returns-clause-put : goal.returns-clause-put
+returns-clause-put c = flat_write _ _ _ _ _ (placed _ _ _ _ _ _ c.tall.ensures c.in_ok-index.ensures) _ c.store.ensures
 
-pub returns : goal.returns
-returns c = record {
-  told = answer_on _ _ _ _ _ (omega arith) (omega arith) refl;
-  put = flat_write _ _ _ _ (omega arith) (omega arith);
-  rest = ap (λ (bs : List ℕ). (c.args.self.now.bytes.ghost_name ∷ bs) ∷ []) (flat_spare_stays _ _ _ c.args.value (omega arith) (omega arith));
-}
+pub returns-clause-rest : goal.returns-clause-rest
+returns-clause-rest c =
+    ap (λ (bs : List ℕ). (c.args.self.now.bytes.ghost_name ∷ bs) ∷ [])
+    (flat_spare_stays _ _ _ _ _ (placed _ _ _ _ _ _ c.tall.ensures c.in_ok-index.ensures) _ c.store.ensures)

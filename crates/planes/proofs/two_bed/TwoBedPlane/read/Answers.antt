@@ -1,15 +1,15 @@
-use Rattle.std.proofs.Common.{refl, arith}
-use Rattle.planes.proofs.Charts.{answer_on, answer_off, on_wide, on_high}
-use Rattle.planes.proofs.Beds.{bed_read}
+use Rattle.std.proofs.Common.{arith}
+use Rattle.planes.proofs.Charts.{placed, answer_on}
+use Rattle.planes.proofs.Beds.{bed_room, bed_read}
 use Rattle.planes.proofs.two_bed.TwoBedPlane.read.Goals as goal
 
-pub returns-then-word-ge64 : goal.returns-then-word-ge64
-returns-then-word-ge64 c = record { told = answer_off _ _ _ _ (on_wide _ _ _ (omega arith)); same = refl; rest = refl }
+pub bounds-self-index : goal.bounds-self-index
+bounds-self-index c = omega (arith, bed_room c.args.self.now.front.now c.args.self.now.back.now _ _ _ (placed _ _ _ _ _ _ c.tall.ensures c.in_ok-index.ensures))
 
-pub returns-then-course-tall : goal.returns-then-course-tall
-returns-then-course-tall c = record { told = answer_off _ _ _ _ (on_high _ _ _ (omega arith)); same = refl; rest = refl }
+pub bounds-self-index-2 : goal.bounds-self-index-2
+bounds-self-index-2 c = omega (arith, bed_room c.args.self.now.front.now c.args.self.now.back.now _ _ _ (placed _ _ _ _ _ _ c.tall.ensures c.in_ok-index.ensures))
 
-pub returns : goal.returns
-returns c =
-    let read = bed_read c.args.self.now.front.now c.args.self.now.back.now c.args.word.0 c.args.course.0 c.interleave.result (omega arith) (omega arith) c.interleave.type_inv c.interleave.ensures in
-    record { told = answer_on _ _ _ _ _ (omega arith) (omega arith) read; same = refl; rest = refl }
+pub returns-clause-told : goal.returns-clause-told
+returns-clause-told c =
+    let on = placed _ _ _ _ _ _ c.tall.ensures c.in_ok-index.ensures in
+    answer_on _ _ _ _ _ on.few on.low (bed_read _ _ _ _ _ _ on c.interleave.type_inv c.interleave.ensures)
