@@ -1,7 +1,7 @@
 // What an address asks for: a coordinate of a pair, a register, and whether stitches are updated.
-ghost use Rattle.std.specs.Prelude.{◌≡◌, ◌<◌, if◌then◌else◌};
+ghost use Rattle.std.specs.Prelude.{◌≡◌, ◌<◌};
 ghost use Rattle.registers.specs.Codes.{pair_number};
-ghost use Rattle.registers.specs.Accesses.{access_of, address_of, number_of_axis, number_of_choice, Asks};
+ghost use Rattle.registers.specs.Accesses.{access_of, address_of, Asks};
 
 use crate::cursor::Axis;
 use crate::unit::Unit;
@@ -38,42 +38,8 @@ impl Pair {
         ensures told { result ≡ pair_number self }
         ensures small { result < 4 }
     {
-        match self {
-            Pair::Zero => 0,
-            Pair::One => 1,
-            Pair::Two => 2,
-            Pair::Three => 3,
-        }
+        self as usize
     }
-}
-
-fn axis_number(axis: Axis) -> u32
-    ensures told { result ≡ number_of_axis axis }
-    ensures small { result < 2 }
-{
-    match axis {
-        Axis::Across => 0,
-        Axis::Down => 1,
-    }
-}
-
-fn choice_number(choice: Choice) -> u32
-    ensures told { result ≡ number_of_choice choice }
-    ensures small { result < 4 }
-{
-    match choice {
-        Choice::Nothing => 0,
-        Choice::Control => 1,
-        Choice::Source => 2,
-        Choice::Mask => 3,
-    }
-}
-
-fn digit(b: bool) -> u32
-    ensures told { result ≡ (if b then 1 else 0) }
-    ensures small { result < 2 }
-{
-    if b { 1 } else { 0 }
 }
 
 impl Access {
@@ -81,6 +47,7 @@ impl Access {
     pub fn of(address: u32) -> Access
         ensures { result ≡ access_of address }
     {
+        // Two matches: a `TryFrom` would bring an error that two bits cannot cause.
         let pair = match address / 4096 % 4 {
             0 => Pair::Zero,
             1 => Pair::One,
@@ -94,6 +61,7 @@ impl Access {
             _ => Choice::Mask,
         };
         Access {
+            // the cast narrows ten bits
             place: (address / 2 % 1024) as u16,
             axis: if address / 2048 % 2 == 1 {
                 Axis::Down
@@ -112,10 +80,10 @@ impl Access {
         ensures back { self.place < 1024 → Asks unit.number self result }
     {
         2 * (u32::from(self.place) % 1024)
-            + 2048 * axis_number(self.axis)
-            + 4096 * (self.pair.number() as u32)
-            + 16384 * choice_number(self.choice)
-            + 65536 * digit(self.update)
+            + 2048 * (self.axis as u32)
+            + 4096 * (self.pair as u32)
+            + 16384 * (self.choice as u32)
+            + 65536 * u32::from(self.update)
             + 131072 * u32::from(unit.number())
     }
 }

@@ -10,7 +10,7 @@ pub enum Axis {
     Down,
 }
 
-#[derive(Clone, Copy, PartialEq, Eq, Debug)]
+#[derive(Clone, Copy, PartialEq, Eq, Default, Debug)]
 pub struct Cursor {
     pub x: Needle,
     pub y: Course,

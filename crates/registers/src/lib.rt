@@ -4,11 +4,11 @@
 ghost use Rattle.std.specs.Prelude.{◌≡◌, false};
 ghost use Rattle.registers.specs.Codes.{pair_number};
 ghost use Rattle.registers.specs.State.{plain, fresh, with_flags};
-ghost use Rattle.registers.specs.Accesses.{admitted, pointed, entered, loaded, answered, retraced, interrupted};
+ghost use Rattle.registers.specs.Accesses.{admitted, pointed, entered, loaded, answered, armed, retraced, interrupted};
 
 pub use access::{Access, Choice, Pair};
 pub use cursor::{Axis, Cursor};
-use planes::{Course, Needle, Refusal};
+use planes::Refusal;
 pub use unit::Unit;
 pub use width::Width;
 
@@ -17,8 +17,8 @@ pub mod cursor;
 pub mod unit;
 pub mod width;
 
-// Bit 0 of `status` is D8. `ahead` is the word under way, if there is one.
-#[derive(Clone, Copy)]
+// The cursors are a table of four, a rule of the project. Bit 0 of `status` is D8. `ahead` is the word under way, if there is one.
+#[derive(Clone, Copy, PartialEq, Eq, Debug)]
 pub struct Registers {
     pub source: u16,
     pub mask: u16,
@@ -36,10 +36,6 @@ impl Registers {
     pub fn new(unit: Unit) -> Registers
         ensures { plain result ≡ fresh unit.number }
     {
-        let origin = Cursor {
-            x: Needle(0),
-            y: Course(0),
-        };
         Registers {
             source: 0,
             mask: 0,
@@ -49,7 +45,7 @@ impl Registers {
             flag: false,
             ahead: None,
             unit,
-            cursors: [origin, origin, origin, origin],
+            cursors: [Cursor::default(); 4],
         }
     }
 
@@ -57,13 +53,10 @@ impl Registers {
     pub fn admit(&self, address: u32) -> Result<Access, Refusal>
         ensures { result ≡ admitted address (plain self.now) }
     {
-        if address % 2 == 1 {
+        if address % 2 == 1 || address > 0xF_FFFF {
             return Err(Refusal::BadAddress);
         }
-        if address > 0xF_FFFF {
-            return Err(Refusal::BadAddress);
-        }
-        if (address / 131072 % 8) as u8 != self.unit.number() {
+        if address / 131072 % 8 != u32::from(self.unit.number()) {
             return Err(Refusal::OtherUnit);
         }
         if self.ahead.is_some() {
@@ -92,12 +85,15 @@ impl Registers {
     {
         match access.choice {
             Choice::Nothing => {}
-            Choice::Control => match access.place % 4 {
-                0 => self.function = (value % 256) as u8,
-                1 => self.width = Width::coded(value),
-                2 => self.status = (value / 256) as u8,
-                _ => self.flag = false,
-            },
+            Choice::Control => {
+                let [high, low] = value.to_be_bytes();
+                match access.place % 4 {
+                    0 => self.function = low,
+                    1 => self.width = Width::coded(value),
+                    2 => self.status = high,
+                    _ => self.flag = false,
+                }
+            }
             Choice::Source => self.source = value,
             Choice::Mask => self.mask = value,
         }
@@ -108,12 +104,8 @@ impl Registers {
         ensures { plain self.new ≡ loaded access word (plain self.old) }
     {
         match access.choice {
-            Choice::Nothing => {}
-            Choice::Control => {
-                if access.place % 4 == 3 {
-                    self.flag = false;
-                }
-            }
+            Choice::Control if access.place % 4 == 3 => self.flag = false,
+            Choice::Nothing | Choice::Control => {}
             Choice::Source => self.source = word,
             Choice::Mask => {
                 let x = self.cursor(access.pair).x;
@@ -137,11 +129,18 @@ impl Registers {
         self.flag = false;
     }
 
+    // Whether D8 is 1.
+    fn armed(&self) -> bool
+        ensures { result ≡ armed (plain self.now) }
+    {
+        self.status % 2 == 1
+    }
+
     // Sets the flag if D8 is 1.
     pub fn retrace(&mut self)
         ensures { plain self.new ≡ retraced (plain self.old) }
     {
-        if self.status % 2 == 1 {
+        if self.armed() {
             self.flag = true;
         }
     }
@@ -150,10 +149,6 @@ impl Registers {
     pub fn interrupt(&self) -> Option<u8>
         ensures { result ≡ interrupted (plain self.now) }
     {
-        if self.flag && self.status % 2 == 1 {
-            Some(self.status / 32)
-        } else {
-            None
-        }
+        (self.flag && self.armed()).then_some(self.status / 32)
     }
 }

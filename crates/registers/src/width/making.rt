@@ -10,10 +10,8 @@ impl Width {
         ensures { result.stitches ≡ decoded value }
     {
         let code = value % 16;
-        if code == 0 {
-            Width { stitches: 16 }
-        } else {
-            Width { stitches: code }
+        Width {
+            stitches: if code == 0 { 16 } else { code },
         }
     }
 
