@@ -1,1 +1,3 @@
 pub mod Layers
+pub mod Ways
+pub mod Laws

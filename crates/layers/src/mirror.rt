@@ -1,57 +1,35 @@
-// A plane with left and right exchanged.
-ghost use Rattle.std.specs.Prelude.{◌≡◌};
-ghost use Rattle.layers.specs.Layers.{mirrored};
+// Left and right exchanged.
+ghost use Rattle.layers.specs.Layers.{mirrored, mirror_below, reversed};
+ghost use Rattle.layers.specs.Laws.{mirror_laws};
 
-use planes::{Course, Plane, Refusal, WordNumber};
+use crate::View;
+use planes::{Plane, Refusal, Stretch, WordNumber};
 
 // Needle x is needle 1023 - x below.
-#[derive(Drop)]
-pub struct Mirror<P> {
-    plane: P,
-}
-
-impl<P: Plane> Mirror<P> {
-    // The mirror of a plane; the plane itself does not change.
-    pub fn new(plane: P) -> Self
-        ensures plane { result.plane ≡ plane }
-    {
-        Mirror { plane }
-    }
-
-    // The plane again.
-    pub fn into_plane(self) -> P
-        ensures { result ≡ self.plane }
-    {
-        let Mirror { plane } = self;
-        plane
-    }
-}
+#[derive(Clone, Copy, PartialEq, Eq, Debug)]
+pub struct Mirror;
 
 // Word w is word 63 - w below, with its bits in the other order.
-impl<P: Plane> Plane for Mirror<P> {
-    ghost height = { λ p. P.Plane.height p.plane };
+impl View for Mirror {
+    ghost shows = { λ _ _. mirrored };
 
-    ghost stitch = { λ p. mirrored (P.Plane.stitch p.plane) };
+    ghost below = { λ _. mirror_below };
 
-    ghost rest = { λ p. P.Plane.rest p.plane };
+    ghost turned = { λ _. reversed };
 
-    fn courses(&mut self) -> u16 {
-        self.plane.courses()
-    }
+    ghost laws = { λ _. mirror_laws };
 
-    fn read(&mut self, word: WordNumber, course: Course) -> Result<u16, Refusal> {
-        if word.0 >= 64 {
+    fn below<P: Plane>(&self, _plane: &mut P, at: Stretch) -> Result<Stretch, Refusal> {
+        if at.word.0 >= 64 {
             return Err(Refusal::OffPlane);
         }
-        let below = self.plane.read(WordNumber(63 - word.0), course)?;
-        Ok(words::reverse(below))
+        Ok(Stretch {
+            word: WordNumber(63 - at.word.0),
+            ..at
+        })
     }
 
-    fn write(&mut self, word: WordNumber, course: Course, value: u16) -> Result<(), Refusal> {
-        if word.0 >= 64 {
-            return Err(Refusal::OffPlane);
-        }
-        let below = words::reverse(value);
-        self.plane.write(WordNumber(63 - word.0), course, below)
+    fn turned(&self, word: u16) -> u16 {
+        words::reverse(word)
     }
 }
