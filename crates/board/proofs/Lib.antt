@@ -1,4 +1,4 @@
 pub mod Begins
+pub mod Edges
 pub mod Reaches
 pub mod Screens
-pub mod Turns

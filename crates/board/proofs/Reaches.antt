@@ -1,7 +1,6 @@
 -- The stitches that a write updates, as parts of two words.
 -- Assumes nothing.
-use Rattle.std.proofs.Common.{◌≡◌, ℕ, ◌+◌, ◌-◌, ◌/◌, ◌%◌, ◌<◌, ◌≤◌, Bool, true, ◌&&◌, ◌||◌, ltb, leb, sym, ap, ◌∙◌, ap₂, inl, inr, arith}
-use Rattle.std.proofs.lemmas.Bool.{le-leb, lt-ltb, le-ltb, cases_lt}
+use Rattle.std.proofs.Common.{◌≡◌, ℕ, ◌+◌, ◌-◌, ◌/◌, ◌%◌, ◌<◌, ◌≤◌, Bool, true, ◌&&◌, ◌||◌, ltb, leb, sym, ap, ◌∙◌, arith}
 use Rattle.std.proofs.lemmas.Bool.Decides.{nat_tests}
 use Rattle.words.specs.Bit.{bit, across, placed}
 use Rattle.words.proofs.Whole.{across_left, across_right}
@@ -12,17 +11,11 @@ use Rattle.planes.proofs.Drawings.{drawn_same, drawn_more}
 -- place i of two words, where a word of `width` ones is laid from place s on
 ones_at : (ones s width i : ℕ) → width ≤ 16 → ((k : ℕ) → k < 16 → bit ones (15 - k) ≡ ltb k width) → placed ones s i ≡ (leb s i && ltb i (s + width))
 unfolding placed
-ones_at ones s width i narrow is =
-    elim (cases_lt i (s + 16)) [
-      | inl a ↦
-          ap₂ (λ (t u : Bool). (leb s i && t) && u) (lt-ltb i (s + 16) a) (is (i - s) (omega arith)) ∙ grind (arith, nat_tests)
-      | inr b ↦
-          ap (λ (t : Bool). (leb s i && t) && bit ones (15 - (i - s))) (le-ltb i (s + 16) b) ∙ grind (arith, nat_tests)
-    ]
+ones_at ones s width i narrow is = grind (arith, nat_tests)
 
 -- the place of a needle in the second word
 right_place : (l r k : ℕ) → k < 16 → bit r (15 - k) ≡ across l r (16 + k)
-right_place l r k h = let e : 31 - (16 + k) ≡ 15 - k = omega arith in sym (across_right l r (16 + k) (omega arith) ∙ ap (bit r) e)
+right_place l r k h = grind (arith, across_right)
 
 -- the two parts, each by the places of its word
 abbrev left_part : (x y width : ℕ) → ℕ → ℕ → Bool
@@ -46,7 +39,7 @@ right_needle x y width u v narrow t = (grind (arith, nat_tests), grind (arith, n
 
 inside : (source s i : ℕ) → s ≤ i → i < s + 16 → placed source s i ≡ bit source (15 - (i - s))
 unfolding placed
-inside source s i a b = ap₂ (λ (t u : Bool). (t && u) && bit source (15 - (i - s))) (le-leb s i a) (lt-ltb i (s + 16) b)
+inside source s i a b = grind (arith, nat_tests)
 
 module _ (code mask x y width ones source hl hr sl sr : ℕ) (narrow : width ≤ 16)
     (are : (k : ℕ) → k < 16 → bit ones (15 - k) ≡ ltb k width)

@@ -1,16 +1,16 @@
 -- A course, word by word.
 -- Assumes nothing.
-use Rattle.std.proofs.Common.{◌≡◌, ℕ, ◌+◌, ◌-◌, ◌*◌, ◌/◌, ◌%◌, ◌<◌, ◌≤◌, Bool, true, false, ◌&&◌, ltb, List, length, get_or, Ok, sym, ap, ◌∙◌, inl, inr, arith}
-use Rattle.std.proofs.lemmas.Bool.{and_right, cases_lt, eq-eqb, lt-ltb, le-ltb}
+use Rattle.std.proofs.Common.{◌≡◌, ℕ, ◌+◌, ◌-◌, ◌*◌, ◌/◌, ◌%◌, ◌<◌, ◌≤◌, Bool, true, false, ◌&&◌, ltb, List, length, sym, ap, ◌∙◌, arith}
+use Rattle.std.proofs.lemmas.Bool.{lt-ltb}
 use Rattle.std.proofs.lemmas.Bool.Decides.{nat_tests}
-use Rattle.words.specs.Bit.{bit, pack}
+use Rattle.words.specs.Bit.{pack}
 use Rattle.words.specs.Bytes.{overlaid, byte_of, half, stored}
 use Rattle.words.proofs.Bits.{bit_none, pack_from_bits}
 use Rattle.words.proofs.Overlays.{overlaid_none, overlaid_at, store_more, half_row, byte_bit}
 use Rattle.planes.specs.Chart.{Chart, chart, window}
 use Rattle.planes.specs.FlatLayout.{flat_on}
-use Rattle.planes.proofs.Charts.{chart_off, within_high, window_lt, window_bit}
-use Rattle.board.specs.Scans.{lit, painted, scan_ruling, Displays}
+use Rattle.planes.proofs.Charts.{window_lt, window_bit}
+use Rattle.board.specs.Scans.{lit, painted, Displays}
 
 -- ---- one word
 pub glimpse_on : (light : Bool) (c : Chart) (w y n : ℕ) → light ≡ true → n ≡ window c (16 * w) y → n ≡ pack (λ i. light && c.on (16 * w + i) y)
@@ -36,26 +36,15 @@ front_more row w n bytes room is =
     (λ i at. ap (λ (m : ℕ). half m i) is ∙ half_row row w i at) (λ i. grind (arith, nat_tests))
 
 -- ---- which courses have anything on
-pub lights_on : (h : ℕ) (f : ℕ → ℕ → Bool) (status y x : ℕ) → (status / 2 % 2 ≡ 0 → ⊥) → (ltb y h && (chart h f).on x y) ≡ (lit status && (chart h f).on x y)
-lights_on h f status y x on =
-    let is : lit status ≡ true = eq-eqb (status / 2 % 2) 1 (omega arith) in
-    elim (cases_lt y h) [
-      | inl low ↦ ap (λ (b : Bool). b && (chart h f).on x y) (lt-ltb y h low ∙ sym is)
-      | inr high ↦
-          let none = chart_off h f x y (within_high h x y high) in
-          and_right (ltb y h) ((chart h f).on x y) none ∙ sym (and_right (lit status) ((chart h f).on x y) none)
-    ]
+pub lights_on : (h : ℕ) (f : ℕ → ℕ → Bool) (status y x : ℕ) → status / 2 % 2 ≡ 1 → (ltb y h && (chart h f).on x y) ≡ (lit status && (chart h f).on x y)
+unfolding chart
+lights_on h f status y x on = grind (arith, nat_tests)
 
--- ---- a course that is taken
-pub scan_ok : (course size : ℕ) → course ≤ 799 → 128 ≤ size → Ok tt ≡ scan_ruling course size
-scan_ok course size seen room = rw (le-ltb 799 course seen, le-ltb size 128 room)
-
--- its bytes in Flat's layout
+-- ---- a course's bytes in Flat's layout
 pub painted_shows : (light : Bool) (c : Chart) (y : ℕ) (bytes : List ℕ) → 128 ≤ length bytes → Displays light c y (painted light c y bytes)
 unfolding flat_on
 painted_shows light c y bytes room x wide =
     let row : ℕ → Bool = λ u. light && c.on u y in
-    let at : 128 * 0 + x / 8 ≡ x / 8 = omega arith in
-    ap (λ (k : ℕ). bit (get_or (painted light c y bytes) k 0) (7 - x % 8)) at
-    ∙ ap (λ (n : ℕ). bit n (7 - x % 8)) (overlaid_at (λ i. ltb i 128) (byte_of row) bytes (x / 8) (omega arith) (lt-ltb (x / 8) 128 (omega arith)))
-    ∙ byte_bit row x
+    let at = overlaid_at (λ i. ltb i 128) (byte_of row) bytes (x / 8) (omega arith) (lt-ltb (x / 8) 128 (omega arith)) in
+    let is = byte_bit row x in
+    grind arith

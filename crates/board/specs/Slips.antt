@@ -13,7 +13,7 @@ begin_ruling x y s = cond (busy s) (Err WordUnderWay) (cond (within s.shown.heig
 
 -- the word under way is replaced, and nothing else
 abbrev pub keeping : Option ℕ → State → State
-keeping w s = record { shown = s.shown; regs = with_ahead w s.regs }
+keeping w s = record s { regs = with_ahead w s.regs }
 
 -- the sixteen stitches from there on are read ahead; a refusal changes nothing
 abbrev pub begun_by : Result (Unit {0}) Refusal → (x y : ℕ) → State → State

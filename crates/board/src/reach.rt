@@ -1,58 +1,70 @@
 // Sixteen stitches at a time, through the plane's words: each word that holds one of them is read once and, for an update, written once; no word off the plane is asked for.
-ghost use Rattle.std.specs.Prelude.{◌≡◌, ◌*◌};
-ghost use Rattle.planes.specs.Chart.{chart_of, window};
-ghost use Rattle.planes.specs.Drawn.{drawn, picked, masked};
+// A read takes `&mut self` and says that the state stays (`same`): a plane may alter what it keeps to itself when it is asked.
+ghost use Rattle.std.specs.Prelude.{◌≡◌, ◌+◌, ◌*◌, ◌/◌};
+ghost use Rattle.planes.specs.Chart.{window};
 ghost use Rattle.registers.specs.Codes.{pair_number};
-ghost use Rattle.registers.specs.State.{plain};
 ghost use Rattle.board.specs.State.{state_of};
-ghost use Rattle.board.specs.Steps.{updated, loading};
+ghost use Rattle.board.specs.Steps.{updating, touched, loading};
 
 use crate::Board;
-use planes::{Course, Plane, WordNumber};
+use planes::{Plane, Stretch};
 use registers::{Access, Choice, Cursor, Pair};
 
+// The two stretches that hold the sixteen stitches from a place on.
+fn stretches(at: Cursor) -> (Stretch, Stretch)
+    ensures first { result.0 ≡ record { word = record { 0 = at.x.0 / 16 }; course = at.y } }
+    ensures next { result.1 ≡ record { word = record { 0 = at.x.0 / 16 + 1 }; course = at.y } }
+{
+    let first = Stretch {
+        word: at.x.word(),
+        course: at.y,
+    };
+    let next = Stretch {
+        word: at.x.next_word(),
+        course: at.y,
+    };
+    (first, next)
+}
+
 impl<P: Plane> Board<P> {
-    // A word of a course of the plane, with nothing on where the plane ends.
-    pub(crate) fn fetch(&mut self, word: WordNumber, course: Course) -> u16
-        ensures told { result ≡ window (chart_of P.height P.stitch self.old.plane) (16 * word.0) course.0 }
-        ensures same { state_of P.height P.stitch self.new ≡ state_of P.height P.stitch self.old }
-        ensures rest { P.rest self.new.plane ≡ P.rest self.old.plane }
+    // A stretch of the plane, with nothing on where the plane ends.
+    #[tactic(auto, using(crate::proofs::Edges::nothing_on))]
+    pub(crate) fn fetch(&mut self, at: Stretch) -> u16
+        ensures told { result ≡ window (state_of P.Plane self.old).shown (16 * at.word.0) at.course.0 }
+        ensures same { state_of P.Plane self.new ≡ state_of P.Plane self.old }
     {
-        if word.0 > 63 {
+        if at.word.0 > 63 {
             return 0;
         }
-        match self.plane.read(word, course) {
-            Ok(value) => value,
-            Err(_) => 0,
-        }
+        self.plane.read(at).unwrap_or(0)
     }
 
     // The sixteen stitches from a place on.
+    #[tactic(auto, using(crate::proofs::Edges::nothing_on))]
     pub(crate) fn window(&mut self, at: Cursor) -> u16
-        ensures told { result ≡ window (chart_of P.height P.stitch self.old.plane) at.x.0 at.y.0 }
-        ensures same { state_of P.height P.stitch self.new ≡ state_of P.height P.stitch self.old }
-        ensures rest { P.rest self.new.plane ≡ P.rest self.old.plane }
+        ensures told { result ≡ window (state_of P.Plane self.old).shown at.x.0 at.y.0 }
+        ensures same { state_of P.Plane self.new ≡ state_of P.Plane self.old }
     {
         if at.y.0 >= self.plane.courses() {
             return 0;
         }
-        let left = self.fetch(at.x.word(), at.y);
+        let (first, next) = stretches(at);
+        let left = self.fetch(first);
         if at.x.0 % 16 == 0 {
             return left;
         }
-        let right = self.fetch(at.x.next_word(), at.y);
+        let right = self.fetch(next);
         words::window(left, right, at.x.0)
     }
 
     // Loads the register that a read chose with the sixteen stitches at its pair.
+    #[tactic(auto, unfolding(crate::specs::Steps::loading))]
     pub(crate) fn load(&mut self, access: Access)
-        ensures step { state_of P.height P.stitch self.new ≡ loading access (state_of P.height P.stitch self.old) }
-        ensures rest { P.rest self.new.plane ≡ P.rest self.old.plane }
+        ensures step { state_of P.Plane self.new ≡ loading access (state_of P.Plane self.old) }
     {
         match access.choice {
-            Choice::Nothing => self.registers.load(access, 0),
-            Choice::Control => self.registers.load(access, 0),
-            _ => {
+            Choice::Nothing | Choice::Control => self.registers.load(access, 0),
+            Choice::Source | Choice::Mask => {
                 let at = self.registers.cursor(access.pair);
                 let word = self.window(at);
                 self.registers.load(access, word);
@@ -60,28 +72,26 @@ impl<P: Plane> Board<P> {
         }
     }
 
-    // Updates the stitches of one word where `here` has ones.
-    fn touch(&mut self, word: WordNumber, course: Course, here: u16, source: u16)
-        ensures step { state_of P.height P.stitch self.new ≡ record { shown = drawn (picked word.0 course.0 here) (plain self.old.registers).function (plain self.old.registers).mask (λ u v. masked source u) (chart_of P.height P.stitch self.old.plane); regs = plain self.old.registers } }
-        ensures rest { P.rest self.new.plane ≡ P.rest self.old.plane }
+    // Updates the stitches of one stretch where `here` has ones.
+    #[tactic(auto, using(crate::proofs::Edges::nothing_drawn))]
+    fn touch(&mut self, at: Stretch, here: u16, source: u16)
+        ensures step { state_of P.Plane self.new ≡ touched at.word.0 at.course.0 here source (state_of P.Plane self.old) }
     {
-        if here == 0 {
+        if here == 0 || at.word.0 > 63 {
             return;
         }
-        if word.0 > 63 {
+        let Ok(old) = self.plane.read(at) else {
             return;
-        }
-        if let Ok(old) = self.plane.read(word, course) {
-            let made = words::combine(self.registers.function, self.registers.mask, source, old);
-            let new = words::put(old, here, made);
-            let _ = self.plane.write(word, course, new);
-        }
+        };
+        let made = words::combine(self.registers.function, self.registers.mask, source, old);
+        let new = words::put(old, here, made);
+        let _ = self.plane.write(at, new);
     }
 
     // Updates the stitches at a pair.
+    #[tactic(auto, unfolding(crate::specs::Steps::updated), using(crate::proofs::Edges::nothing_drawn))]
     pub(crate) fn update(&mut self, pair: Pair)
-        ensures step { state_of P.height P.stitch self.new ≡ record { shown = updated (pair_number pair) (plain self.old.registers) (chart_of P.height P.stitch self.old.plane); regs = plain self.old.registers } }
-        ensures rest { P.rest self.new.plane ≡ P.rest self.old.plane }
+        ensures step { state_of P.Plane self.new ≡ updating (pair_number pair) (state_of P.Plane self.old) }
     {
         let at = self.registers.cursor(pair);
         if at.y.0 >= self.plane.courses() {
@@ -90,7 +100,8 @@ impl<P: Plane> Board<P> {
         let ones = words::ones(self.registers.width.stitches());
         let (here, after) = words::lay(ones, at.x.0);
         let (lead, trail) = words::lay(self.registers.source, at.x.0);
-        self.touch(at.x.word(), at.y, here, lead);
-        self.touch(at.x.next_word(), at.y, after, trail);
+        let (first, next) = stretches(at);
+        self.touch(first, here, lead);
+        self.touch(next, after, trail);
     }
 }

@@ -1,7 +1,6 @@
 // A word under way, and the slip for it.
 ghost use Rattle.std.specs.Prelude.{◌≡◌, None};
 ghost use Rattle.planes.specs.Answer.{instead};
-ghost use Rattle.registers.specs.State.{plain};
 ghost use Rattle.board.specs.State.{state_of};
 ghost use Rattle.board.specs.Slips.{begin_ruling, begun, keeping, redeemed};
 
@@ -17,15 +16,11 @@ pub struct Slip {
 impl<P: Plane> Board<P> {
     // Reads sixteen stitches ahead and hands out a slip for them. Until a slip is presented to it, the board takes no access.
     pub fn begin(&mut self, at: Cursor) -> Result<Slip, Refusal>
-        ensures told { instead tt result ≡ begin_ruling at.x.0 at.y.0 (state_of P.height P.stitch self.old) }
-        ensures step { state_of P.height P.stitch self.new ≡ begun at.x.0 at.y.0 (state_of P.height P.stitch self.old) }
-        ensures rest { P.rest self.new.plane ≡ P.rest self.old.plane }
+        ensures told { instead tt result ≡ begin_ruling at.x.0 at.y.0 (state_of P.Plane self.old) }
+        ensures step { state_of P.Plane self.new ≡ begun at.x.0 at.y.0 (state_of P.Plane self.old) }
     {
         self.ready()?;
-        if at.x.0 > 1023 {
-            return Err(Refusal::OffChart);
-        }
-        if at.y.0 >= self.plane.courses() {
+        if at.x.0 > 1023 || at.y.0 >= self.plane.courses() {
             return Err(Refusal::OffChart);
         }
         let word = self.window(at);
@@ -35,14 +30,14 @@ impl<P: Plane> Board<P> {
 
     // The board's own word under way, whichever slip is presented. With none under way the slip comes back.
     pub fn collect(&mut self, slip: Slip) -> Result<u16, (Refusal, Slip)>
-        ensures told { result ≡ redeemed (λ w. w) slip (plain self.old.registers).ahead }
-        ensures step { state_of P.height P.stitch self.new ≡ keeping None (state_of P.height P.stitch self.old) }
+        ensures told { result ≡ redeemed (λ w. w) slip (state_of P.Plane self.old).regs.ahead }
+        ensures step { state_of P.Plane self.new ≡ keeping None (state_of P.Plane self.old) }
         ensures plane { self.new.plane ≡ self.old.plane }
     {
-        match self.registers.ahead {
+        // Both arms have the slip to hand on or to take apart: a method with two closures is no plainer.
+        match self.registers.ahead.take() {
             Some(word) => {
                 let Slip { mark: _ } = slip;
-                self.registers.ahead = None;
                 Ok(word)
             }
             None => Err((Refusal::NoWordUnderWay, slip)),
@@ -51,8 +46,8 @@ impl<P: Plane> Board<P> {
 
     // Ends the word under way unread. With none under way the slip comes back.
     pub fn give_up(&mut self, slip: Slip) -> Result<(), (Refusal, Slip)>
-        ensures told { result ≡ redeemed (λ _. tt) slip (plain self.old.registers).ahead }
-        ensures step { state_of P.height P.stitch self.new ≡ keeping None (state_of P.height P.stitch self.old) }
+        ensures told { result ≡ redeemed (λ _. tt) slip (state_of P.Plane self.old).regs.ahead }
+        ensures step { state_of P.Plane self.new ≡ keeping None (state_of P.Plane self.old) }
         ensures plane { self.new.plane ≡ self.old.plane }
     {
         self.collect(slip)?;

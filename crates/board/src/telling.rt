@@ -10,17 +10,17 @@ use registers::Registers;
 impl<P: Plane> Board<P> {
     // The registers as they stand.
     pub fn registers(&self) -> Registers
-        ensures { plain result ≡ (state_of P.height P.stitch self.now).regs }
+        ensures { plain result ≡ (state_of P.Plane self.now).regs }
     {
         self.registers
     }
 
     // The number of the plane's courses.
+    #[tactic(auto, unfolding(planes::specs::Chart::chart))]
     pub fn height(&mut self) -> u16
-        ensures told { result ≡ (state_of P.height P.stitch self.old).shown.height }
+        ensures told { result ≡ (state_of P.Plane self.old).shown.height }
         ensures low { result ≤ 1024 }
-        ensures same { state_of P.height P.stitch self.new ≡ state_of P.height P.stitch self.old }
-        ensures rest { P.rest self.new.plane ≡ P.rest self.old.plane }
+        ensures same { state_of P.Plane self.new ≡ state_of P.Plane self.old }
     {
         self.plane.courses()
     }

@@ -14,15 +14,11 @@ use registers::Cursor;
 
 // The sixteen stitches from a place on. The board is then as it was.
 pub fn word_at<P: Plane>(board: &mut Board<P>, at: Cursor) -> Result<u16, Refusal>
-    ensures told { result ≡ instead (window (state_of P.height P.stitch board.old).shown at.x.0 at.y.0) (begin_ruling at.x.0 at.y.0 (state_of P.height P.stitch board.old)) }
-    ensures same { state_of P.height P.stitch board.new ≡ state_of P.height P.stitch board.old }
-    ensures rest { P.rest board.new.plane ≡ P.rest board.old.plane }
+    ensures told { result ≡ instead (window (state_of P.Plane board.old).shown at.x.0 at.y.0) (begin_ruling at.x.0 at.y.0 (state_of P.Plane board.old)) }
+    ensures same { state_of P.Plane board.new ≡ state_of P.Plane board.old }
 {
     let slip = board.begin(at)?;
-    match board.collect(slip) {
-        Ok(word) => Ok(word),
-        Err(_) => unreachable(),
-    }
+    Ok(board.collect(slip).unwrap())
 }
 
 // The sixteen stitches at one place of each of two boards. Each board's slip is presented to the other, which answers its own word all the same.
@@ -32,22 +28,17 @@ pub fn words_at<P: Plane, Q: Plane>(
     second: &mut Board<Q>,
     at: Cursor,
 ) -> Result<(u16, u16), Refusal>
-    ensures told { result ≡ paired (instead (window (state_of P.Plane.height P.Plane.stitch first.old).shown at.x.0 at.y.0) (begin_ruling at.x.0 at.y.0 (state_of P.Plane.height P.Plane.stitch first.old))) (instead (window (state_of Q.Plane.height Q.Plane.stitch second.old).shown at.x.0 at.y.0) (begin_ruling at.x.0 at.y.0 (state_of Q.Plane.height Q.Plane.stitch second.old))) }
-    ensures first { (state_of P.Plane.height P.Plane.stitch first.new ≡ state_of P.Plane.height P.Plane.stitch first.old) × (P.Plane.rest first.new.plane ≡ P.Plane.rest first.old.plane) }
-    ensures second { (state_of Q.Plane.height Q.Plane.stitch second.new ≡ state_of Q.Plane.height Q.Plane.stitch second.old) × (Q.Plane.rest second.new.plane ≡ Q.Plane.rest second.old.plane) }
+    ensures told { result ≡ paired (instead (window (state_of P.Plane first.old).shown at.x.0 at.y.0) (begin_ruling at.x.0 at.y.0 (state_of P.Plane first.old))) (instead (window (state_of Q.Plane second.old).shown at.x.0 at.y.0) (begin_ruling at.x.0 at.y.0 (state_of Q.Plane second.old))) }
+    ensures first { state_of P.Plane first.new ≡ state_of P.Plane first.old }
+    ensures second { state_of Q.Plane second.new ≡ state_of Q.Plane second.old }
 {
     let slip = first.begin(at)?;
+    // A match: each arm needs the first slip, which two closures could not share.
     match second.begin(at) {
-        Ok(other) => match first.collect(other) {
-            Ok(one) => match second.collect(slip) {
-                Ok(two) => Ok((one, two)),
-                Err(_) => unreachable(),
-            },
-            Err(_) => unreachable(),
-        },
-        Err(refusal) => match first.give_up(slip) {
-            Ok(()) => Err(refusal),
-            Err(_) => unreachable(),
-        },
+        Ok(other) => Ok((first.collect(other).unwrap(), second.collect(slip).unwrap())),
+        Err(refusal) => {
+            first.give_up(slip).unwrap();
+            Err(refusal)
+        }
     }
 }

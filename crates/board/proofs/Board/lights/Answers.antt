@@ -3,14 +3,10 @@ use Rattle.board.specs.State.{State, state_of}
 use Rattle.board.proofs.Screens.{lights_on}
 use Rattle.board.proofs.Board.lights.Goals as goal
 
-pub returns : goal.returns
-returns g c =
-    let was : State = state_of g.P.Plane.height g.P.Plane.stitch c.args.self.now in
+pub returns-then-self-eq1-clause-told : goal.returns-then-self-eq1-clause-told
+returns-then-self-eq1-clause-told g c =
+    let was : State = state_of g.P.Plane c.args.self.now in
     let y : ℕ = c.args.course.0 in
-    record {
-      told = λ x.
-          ap (λ (n : ℕ). ltb y n && was.shown.on x y) c.courses.ensures.told
-          ∙ lights_on (g.P.Plane.height c.args.self.now.plane).rows (g.P.Plane.stitch c.args.self.now.plane) was.regs.status y x c.if-self-eq0.false;
-      same = λ i. record { shown = c.courses.ensures.same i; regs = was.regs };
-      rest = c.courses.ensures.rest;
-    }
+    λ x.
+    ap (λ (n : ℕ). ltb y n && was.shown.on x y) c.courses.ensures.told
+    ∙ lights_on (g.P.Plane.height c.args.self.now.plane).rows (g.P.Plane.stitch c.args.self.now.plane) was.regs.status y x c.if-self-eq1.true

@@ -1,26 +1,23 @@
-use Rattle.std.proofs.Common.{refl, ap, ◌∙◌}
+use Rattle.std.proofs.Common.{◌≡◌, ℕ, ap, ◌∙◌}
 use Rattle.planes.specs.Chart.{window}
-use Rattle.registers.specs.declared.access.Choice.TheVariants.{Nothing, Control}
+use Rattle.registers.specs.declared.access.Access.{Access}
 use Rattle.registers.specs.declared.cursor.Cursor.{Cursor}
+use Rattle.registers.specs.Codes.{pair_number}
+use Rattle.registers.specs.State.{Regs}
+use Rattle.registers.specs.Accesses.{loaded}
 use Rattle.board.specs.State.{State, state_of}
-use Rattle.board.proofs.Turns.{load_none, load_word}
+use Rattle.board.specs.Steps.{stitches_at, loading}
 use Rattle.board.proofs.Board.load.Goals as goal
 
-pub returns-in-Nothing : goal.returns-in-Nothing
-returns-in-Nothing g c =
-    let was : State = state_of g.P.Plane.height g.P.Plane.stitch c.args.self.now in
-    record { step = load_none c.args.access was Nothing _ c.in-Nothing.is (λ _ _. refl) c.load.ensures; rest = refl }
+load_word : (k : Access) (s t : State) (r : Regs) (w : ℕ) → t ≡ s → w ≡ stitches_at (pair_number k.pair) s.regs s.shown → r ≡ loaded k w t.regs →
+    ◌≡◌ {A = State} (record { shown = t.shown; regs = r; kept = t.kept }) (loading k s)
+unfolding loading
+load_word k s t r w same told done =
+    (λ i. record { shown = (same i).shown; regs = done i; kept = (same i).kept })
+    ∙ (λ i. record { shown = s.shown; regs = loaded k (told i) (same i).regs; kept = s.kept })
 
-pub returns-in-Control : goal.returns-in-Control
-returns-in-Control g c =
-    let was : State = state_of g.P.Plane.height g.P.Plane.stitch c.args.self.now in
-    record { step = load_none c.args.access was Control _ c.in-Control.is (λ _ _. refl) c.load-in-Control.ensures; rest = refl }
-
-pub returns-in_default : goal.returns-in_default
-returns-in_default g c =
-    let was : State = state_of g.P.Plane.height g.P.Plane.stitch c.args.self.now in
+pub returns-in-Source : goal.returns-in-Source
+returns-in-Source g c =
+    let was : State = state_of g.P.Plane c.args.self.now in
     let word = c.window-word.ensures.told ∙ ap (λ (p : Cursor). window was.shown p.x.0 p.y.0) c.cursor-at.ensures in
-    record {
-      step = load_word c.args.access was (state_of g.P.Plane.height g.P.Plane.stitch c.window-word.new.self) _ c.window-word.result c.window-word.ensures.same word c.load-in_default.ensures;
-      rest = c.window-word.ensures.rest;
-    }
+    record { step = load_word c.args.access was (state_of g.P.Plane c.window-word.new.self) _ _ c.window-word.ensures.same word c.load-in-Source.ensures }
