@@ -1,76 +1,52 @@
 -- A fill, strip by strip.
 -- Assumes nothing.
-use Rattle.std.proofs.Common.{◌≡◌, ℕ, ◌+◌, ◌-◌, ◌*◌, ◌<◌, ◌≤◌, min, true, false, ◌||◌, sym, refl, ap, ◌∙◌, arith}
+use Rattle.std.proofs.Common.{◌≡◌, ℕ, ◌+◌, ◌-◌, ◌*◌, ◌<◌, ◌≤◌, min, Bool, true, sym, refl, ap, ◌∙◌, rules, arith}
 use Rattle.std.proofs.lemmas.Bool.Decides.{nat_tests}
 use Rattle.words.proofs.Bits.{bit_ones}
 use Rattle.planes.specs.Drawn.{drawn, reach, laid}
 use Rattle.planes.proofs.Drawings.{drawn_none, drawn_same, drawn_more}
-use Rattle.registers.specs.declared.access.Access.{Access}
-use Rattle.registers.specs.declared.access.Choice.TheVariants.{Source}
-use Rattle.registers.specs.declared.access.Pair.TheVariants.{Three}
-use Rattle.registers.specs.declared.cursor.Axis.TheVariants.{Down}
 use Rattle.board.specs.State.{State}
 use Rattle.board.specs.Steps.{poking, updated}
 use Rattle.drawing.specs.Figures.{Area, inside, all_on}
-use Rattle.drawing.specs.Setting.{Aimed, Drew, strip}
-use Rattle.drawing.proofs.Accesses.{spent_none, spent_more, other_pairs}
+use Rattle.drawing.specs.Setting.{Inked, Aimed, Drew, by_course, strip}
 
--- ---- one course
-abbrev pub row_access : ℕ → Access
-row_access v = record { place = v; axis = Down; pair = Three; choice = Source; update = true }
+-- ---- one strip, course after course
+-- the courses of a strip above course z
+abbrev pub above : Area → ℕ → Area
+above a z = record { x = a.x; y = a.y; w = a.w; h = z - a.y }
 
--- n courses of an area that the registers' width and needle give
-abbrev pub rows : (y n : ℕ) → State → Area
-rows y n s = record { x = (s.regs.cursors 3).x.0; y = y; w = s.regs.width; h = n }
+-- the courses of a strip above course z are drawn, and width and needle are the strip's
+pub record Begun (a : Area) (z : ℕ) (s t : State) : Type 0 where
+  pub drew : Drew (above a z) s.regs.function s.regs.mask s t
+  pub width_is : t.regs.width ≡ a.w
+  pub x_is : (t.regs.cursors 3).x.0 ≡ a.x
 
-rows_apart : (x y w n u v : ℕ) → inside (record { x = x; y = y; w = w; h = n }) u v ≡ true → reach x (y + n) w u v ≡ true → ⊥
-rows_apart x y w n u v p q = grind (arith, nat_tests)
-
-rows_more : (x y w n u v : ℕ) → inside (record { x = x; y = y; w = w; h = n + 1 }) u v ≡ (inside (record { x = x; y = y; w = w; h = n }) u v || reach x (y + n) w u v)
-rows_more x y w n u v = grind (arith, nat_tests)
-
-rows_none : (x y w u v : ℕ) → inside (record { x = x; y = y; w = w; h = 0 }) u v ≡ false
-rows_none x y w u v = grind (arith, nat_tests)
-
--- what a course keeps besides the chart
-pub record Row (y n : ℕ) (s t : State) : Type 0 where
-  pub drew : Drew (rows y n s) s t
-  pub width_is : t.regs.width ≡ s.regs.width
-  pub x_is : (t.regs.cursors 3).x.0 ≡ (s.regs.cursors 3).x.0
-
-pub row_none : (y : ℕ) (s : State) → Row y 0 s s
-row_none y s = record {
+pub begun_none : (a : Area) (s t : State) → Aimed a s t → Begun a a.y s t
+begun_none a s t p = record {
   drew = record {
-    shown = sym (drawn_none s.regs.function s.regs.mask s.shown (inside (rows y 0 s)) all_on (λ u v _. rows_none (s.regs.cursors 3).x.0 y s.regs.width u v));
-    spent = spent_none s.regs;
-    function_is = refl;
-    mask_is = refl;
+    shown = p.quiet.shown ∙ sym (drawn_none s.regs.function s.regs.mask s.shown (inside (above a a.y)) all_on (λ u v _. grind (arith, nat_tests)));
+    spent = p.quiet.spent;
+    function_is = p.function_is;
+    mask_is = p.mask_is;
   };
-  width_is = refl;
-  x_is = refl;
+  width_is = p.width_is;
+  x_is = p.x_is;
 }
 
-pub row_more : (y n : ℕ) (s t : State) → Row y n s t → Row y (n + 1) s (poking 65535 (row_access (y + n)) t)
+pub begun_more : (a : Area) (z : ℕ) (s t : State) → a.y ≤ z → Begun a z s t → Begun a (z + 1) s (poking 65535 (by_course z true) t)
 unfolding poking updated
-row_more y n s t r =
+begun_more a z s t h r =
     let code : ℕ = s.regs.function in
     let mask : ℕ = s.regs.mask in
-    let x : ℕ = (s.regs.cursors 3).x.0 in
-    let w : ℕ = s.regs.width in
+    let here : ℕ → ℕ → Bool = reach a.x z a.w in
     record {
       drew = record {
         shown =
-            (λ i. drawn (reach (r.x_is i) (y + n) (r.width_is i)) (r.drew.function_is i) (r.drew.mask_is i) (laid (r.x_is i) 65535) t.shown)
-            ∙ drawn_same code mask t.shown (reach x (y + n) w) (reach x (y + n) w) (laid x 65535) all_on (λ u v _. refl) (λ u v _ _. bit_ones 16 (15 - (u - x)) (omega arith))
-            ∙ ap (drawn (reach x (y + n) w) code mask all_on) r.drew.shown
-            ∙ drawn_more code mask s.shown (inside (rows y n s)) (reach x (y + n) w) (inside (rows y (n + 1) s)) all_on (λ u v _. rows_apart x y w n u v) (λ u v _. rows_more x y w n u v);
-        spent = record {
-          status = r.drew.spent.status;
-          flag = r.drew.spent.flag;
-          ahead = r.drew.spent.ahead;
-          unit = r.drew.spent.unit;
-          pairs = λ i h. other_pairs Down (y + n) t.regs.cursors i h ∙ r.drew.spent.pairs i h;
-        };
+            (λ i. drawn (reach (r.x_is i) z (r.width_is i)) (r.drew.function_is i) (r.drew.mask_is i) (laid (r.x_is i) 65535) t.shown)
+            ∙ drawn_same code mask t.shown here here (laid a.x 65535) all_on (λ u v _. refl) (λ u v _ _. bit_ones 16 (15 - (u - a.x)) (omega arith))
+            ∙ ap (drawn here code mask all_on) r.drew.shown
+            ∙ drawn_more code mask s.shown (inside (above a z)) here (inside (above a (z + 1))) all_on (λ u v _. grind (arith, nat_tests)) (λ u v _. grind (arith, nat_tests));
+        spent = search (rules, arith, nat_tests);
         function_is = r.drew.function_is;
         mask_is = r.drew.mask_is;
       };
@@ -78,53 +54,26 @@ row_more y n s t r =
       x_is = r.x_is;
     }
 
--- ---- one strip
-pub strip_drew : (a : Area) (k : ℕ) (s t u : State) → Aimed (a.x + 16 * k) (min 16 (a.w - 16 * k)) s t → Row a.y a.h t u → Drew (strip a k) s u
-strip_drew a k s t u p r = record {
-  shown =
-      r.drew.shown
-      ∙ (λ i. drawn (inside (record { x = p.x_is i; y = a.y; w = p.width_is i; h = a.h })) (p.function_is i) (p.mask_is i) all_on (p.shown i));
-  spent = spent_more s.regs t.regs u.regs p.spent r.drew.spent;
-  function_is = r.drew.function_is ∙ p.function_is;
-  mask_is = r.drew.mask_is ∙ p.mask_is;
-}
-
 -- ---- strip after strip
 -- the first k strips of an area
 abbrev pub front : Area → ℕ → Area
 front a k = record { x = a.x; y = a.y; w = min a.w (16 * k); h = a.h }
 
-front_none : (a : Area) (u v : ℕ) → inside (front a 0) u v ≡ false
-front_none a u v = grind (arith, nat_tests)
-
-front_apart : (a : Area) (k u v : ℕ) → inside (front a k) u v ≡ true → inside (strip a k) u v ≡ true → ⊥
-front_apart a k u v p q = grind (arith, nat_tests)
-
-front_more : (a : Area) (k u v : ℕ) → 16 * k < a.w → inside (front a (k + 1)) u v ≡ (inside (front a k) u v || inside (strip a k) u v)
-front_more a k u v h = grind (arith, nat_tests)
-
-pub drew_none : (a : Area) (s : State) → Drew (front a 0) s s
-drew_none a s = record {
-  shown = sym (drawn_none s.regs.function s.regs.mask s.shown (inside (front a 0)) all_on (λ u v _. front_none a u v));
-  spent = spent_none s.regs;
-  function_is = refl;
-  mask_is = refl;
+pub drew_none : (a : Area) (code mask : ℕ) (s t : State) → Inked code mask s t → Drew (front a 0) code mask s t
+drew_none a code mask s t p = record {
+  shown = p.quiet.shown ∙ sym (drawn_none code mask s.shown (inside (front a 0)) all_on (λ u v _. grind (arith, nat_tests)));
+  spent = p.quiet.spent;
+  function_is = p.function_is;
+  mask_is = p.mask_is;
 }
 
-pub drew_more : (a : Area) (k : ℕ) (s t u : State) → 16 * k < a.w → Drew (front a k) s t → Drew (strip a k) t u → Drew (front a (k + 1)) s u
-drew_more a k s t u h p q =
-    let code : ℕ = s.regs.function in
-    let mask : ℕ = s.regs.mask in
-    record {
-      shown =
-          q.shown
-          ∙ (λ i. drawn (inside (strip a k)) (p.function_is i) (p.mask_is i) all_on (p.shown i))
-          ∙ drawn_more code mask s.shown (inside (front a k)) (inside (strip a k)) (inside (front a (k + 1))) all_on (λ u v _. front_apart a k u v) (λ u v _. front_more a k u v h);
-      spent = spent_more s.regs t.regs u.regs p.spent q.spent;
-      function_is = q.function_is ∙ p.function_is;
-      mask_is = q.mask_is ∙ p.mask_is;
-    }
-
--- all of them
-pub front_all : (a : Area) (k : ℕ) → a.w ≤ 16 * k → front a k ≡ a
-front_all a k h = let e : min a.w (16 * k) ≡ a.w = omega arith in λ i. record { x = a.x; y = a.y; w = e i; h = a.h }
+pub drew_more : (a : Area) (k code mask : ℕ) (s t u : State) → 16 * k < a.w → Drew (front a k) code mask s t → Drew (strip a k) t.regs.function t.regs.mask t u → Drew (front a (k + 1)) code mask s u
+drew_more a k code mask s t u h p q = record {
+  shown =
+      q.shown
+      ∙ (λ i. drawn (inside (strip a k)) (p.function_is i) (p.mask_is i) all_on (p.shown i))
+      ∙ drawn_more code mask s.shown (inside (front a k)) (inside (strip a k)) (inside (front a (k + 1))) all_on (λ u v _. grind (arith, nat_tests)) (λ u v _. grind (arith, nat_tests));
+  spent = search rules;
+  function_is = q.function_is ∙ p.function_is;
+  mask_is = q.mask_is ∙ p.mask_is;
+}

@@ -1,141 +1,72 @@
 // Drawings on a board, through its public calls alone.
 #![tactic(auto)]
 
-ghost use Rattle.std.specs.Prelude.{◌≡◌, ◌*◌, ◌<◌, ◌≤◌, false, Ok};
+ghost use Rattle.std.specs.Prelude.{◌≡◌, ◌≤◌};
 ghost use Rattle.planes.specs.Answer.{instead};
-ghost use Rattle.board.specs.State.{state_of, busy};
-ghost use Rattle.board.specs.Steps.{poking};
-ghost use Rattle.drawing.specs.Given.{area, covers};
+ghost use Rattle.board.specs.State.{state_of};
+ghost use Rattle.drawing.specs.Given.{area, covers, seen};
 ghost use Rattle.drawing.specs.Fills.{fill_ruling, filled};
-ghost use Rattle.drawing.specs.Spending.{Spent, Left};
-ghost use Rattle.drawing.specs.Setting.{Ready, Inked, Aimed, Drew, strip};
+ghost use Rattle.drawing.specs.Spending.{Left};
+ghost use Rattle.drawing.specs.Setting.{Drew};
 
 use board::Board;
+use carriage::{Carriage, by_course};
 pub use lifting::lift;
-use planes::{Plane, Refusal};
+use planes::{Course, Plane, Refusal};
 pub use rect::{Frame, Rect};
-use registers::{Access, Axis, Choice, Pair, Unit};
 
+mod carriage;
 pub mod lifting;
 pub mod rect;
 
 // What a drawing makes of a stitch: a function code, and a mask that is aligned with words.
-#[derive(Clone, Copy)]
+#[derive(Clone, Copy, PartialEq, Eq, Debug)]
 pub struct Brush {
     pub code: u8,
     pub mask: u16,
 }
 
-// A write by what it asks for.
-fn ask<P: Plane>(
-    board: &mut Board<P>,
-    unit: Unit,
-    access: Access,
-    value: u16,
-) -> Result<(), Refusal>
-    requires near { access.place < 1024 }
-    requires ready { Ready unit.number (state_of P.height P.stitch board.old) }
-    ensures done { result ≡ Ok tt }
-    ensures step { state_of P.height P.stitch board.new ≡ poking value access (state_of P.height P.stitch board.old) }
-    ensures ready { Ready unit.number (state_of P.height P.stitch board.new) }
-    ensures rest { P.rest board.new.plane ≡ P.rest board.old.plane }
+// The rectangle of a frame on a board that takes accesses, or the first refusal that fits.
+fn admitted<P: Plane>(board: &mut Board<P>, frame: Frame) -> Result<Rect, Refusal>
+    ensures told { seen result ≡ fill_ruling (state_of P.Plane board.old) (area frame) }
+    ensures same { state_of P.Plane board.new ≡ state_of P.Plane board.old }
 {
-    board.poke(access.address(unit), value)
+    board.ready()?;
+    frame.on(board.height())
 }
 
-// An access of pair 3, the only pair that drawings move.
-fn control(place: u16, choice: Choice) -> Access
-    ensures { result ≡ record { place = place; axis = Axis.Across; pair = Pair.Three; choice = choice; update = false } }
-{
-    Access {
-        place,
-        axis: Axis::Across,
-        pair: Pair::Three,
-        choice,
-        update: false,
+impl<P: Plane> Carriage<'_, P> {
+    // Fills a strip: one access for each course, after two that set width and needle.
+    fn fill_strip(&mut self, strip: Rect)
+        requires narrow { strip.w ≤ 16 }
+        ensures drew { Drew (covers strip) (state_of P.Plane self.old.board.now).regs.function (state_of P.Plane self.old.board.now).regs.mask (state_of P.Plane self.old.board.now) (state_of P.Plane self.new.board.now) }
+        ensures lent { self.new.board.ghost_name ≡ self.old.board.ghost_name }
+    {
+        self.aim(strip);
+        for course in strip.y.0..strip.y.0 + strip.h {
+            self.poke(by_course(Course(course), true), 0xFFFF);
+        }
     }
-}
 
-// Sets function and mask.
-fn ink<P: Plane>(board: &mut Board<P>, unit: Unit, brush: Brush) -> Result<(), Refusal>
-    requires ready { Ready unit.number (state_of P.height P.stitch board.old) }
-    ensures done { result ≡ Ok tt }
-    ensures inked { Inked brush.code brush.mask (state_of P.height P.stitch board.old) (state_of P.height P.stitch board.new) }
-    ensures ready { Ready unit.number (state_of P.height P.stitch board.new) }
-    ensures rest { P.rest board.new.plane ≡ P.rest board.old.plane }
-{
-    ask(
-        board,
-        unit,
-        control(0, Choice::Control),
-        u16::from(brush.code),
-    )?;
-    ask(board, unit, control(0, Choice::Mask), brush.mask)
-}
-
-// Sets width and needle.
-fn aim<P: Plane>(board: &mut Board<P>, unit: Unit, x: u16, width: u16) -> Result<(), Refusal>
-    requires near { x < 1024 }
-    requires some { 1 ≤ width }
-    requires narrow { width ≤ 16 }
-    requires ready { Ready unit.number (state_of P.height P.stitch board.old) }
-    ensures done { result ≡ Ok tt }
-    ensures aimed { Aimed x width (state_of P.height P.stitch board.old) (state_of P.height P.stitch board.new) }
-    ensures ready { Ready unit.number (state_of P.height P.stitch board.new) }
-    ensures rest { P.rest board.new.plane ≡ P.rest board.old.plane }
-{
-    ask(board, unit, control(1, Choice::Control), width)?;
-    ask(board, unit, control(x, Choice::Nothing), 0)
-}
-
-// Fills strip k of a rectangle, which is sixteen needles wide but for the last: one access for each course, after two that set width and needle.
-fn fill_strip<P: Plane>(board: &mut Board<P>, unit: Unit, rect: Rect, k: u16) -> Result<(), Refusal>
-    requires there { 16 * k < rect.w }
-    requires ready { Ready unit.number (state_of P.height P.stitch board.old) }
-    ensures done { result ≡ Ok tt }
-    ensures drew { Drew (strip (covers rect) k) (state_of P.height P.stitch board.old) (state_of P.height P.stitch board.new) }
-    ensures ready { Ready unit.number (state_of P.height P.stitch board.new) }
-    ensures rest { P.rest board.new.plane ≡ P.rest board.old.plane }
-{
-    let width = (rect.w - 16 * k).min(16);
-    aim(board, unit, rect.x.0 + 16 * k, width)?;
-    for course in rect.y.0..rect.y.0 + rect.h {
-        let access = Access {
-            place: course,
-            axis: Axis::Down,
-            pair: Pair::Three,
-            choice: Choice::Source,
-            update: true,
-        };
-        ask(board, unit, access, 0xFFFF)?;
+    // Fills a rectangle, strip by strip.
+    fn fill(&mut self, rect: Rect, brush: Brush)
+        ensures drew { Drew (covers rect) brush.code brush.mask (state_of P.Plane self.old.board.now) (state_of P.Plane self.new.board.now) }
+        ensures lent { self.new.board.ghost_name ≡ self.old.board.ghost_name }
+    {
+        self.ink(brush);
+        for k in 0..rect.row_words() {
+            self.fill_strip(rect.strip(k));
+        }
     }
-    Ok(())
-}
-
-// Fills a rectangle, strip by strip.
-fn fill_rect<P: Plane>(board: &mut Board<P>, rect: Rect, brush: Brush) -> Result<(), Refusal>
-    requires idle { busy (state_of P.height P.stitch board.old) ≡ false }
-    ensures done { result ≡ Ok tt }
-    ensures shown { (state_of P.height P.stitch board.new).shown ≡ filled (Ok (covers rect)) brush.code brush.mask (state_of P.height P.stitch board.old).shown }
-    ensures spent { Spent (state_of P.height P.stitch board.old).regs (state_of P.height P.stitch board.new).regs }
-    ensures rest { P.rest board.new.plane ≡ P.rest board.old.plane }
-{
-    let unit = board.registers().unit;
-    ink(board, unit, brush)?;
-    for k in 0..rect.w.div_ceil(16) {
-        fill_strip(board, unit, rect, k)?;
-    }
-    Ok(())
 }
 
 // Fills a rectangle: each of its stitches takes the bit of the code that its mask bit, a source bit of 1 and itself choose.
 pub fn fill<P: Plane>(board: &mut Board<P>, frame: Frame, brush: Brush) -> Result<(), Refusal>
-    ensures told { result ≡ instead tt (fill_ruling (state_of P.height P.stitch board.old) (area frame)) }
-    ensures shown { (state_of P.height P.stitch board.new).shown ≡ filled (fill_ruling (state_of P.height P.stitch board.old) (area frame)) brush.code brush.mask (state_of P.height P.stitch board.old).shown }
-    ensures left { Left result (state_of P.height P.stitch board.old).regs (state_of P.height P.stitch board.new).regs }
-    ensures rest { P.rest board.new.plane ≡ P.rest board.old.plane }
+    ensures told { result ≡ instead tt (fill_ruling (state_of P.Plane board.old) (area frame)) }
+    ensures shown { (state_of P.Plane board.new).shown ≡ filled (fill_ruling (state_of P.Plane board.old) (area frame)) brush.code brush.mask (state_of P.Plane board.old).shown }
+    ensures left { Left result (state_of P.Plane board.old) (state_of P.Plane board.new) }
 {
-    board.ready()?;
-    let rect = frame.on(board.height())?;
-    fill_rect(board, rect, brush)
+    let rect = admitted(board, frame)?;
+    Carriage::of(board).fill(rect, brush);
+    Ok(())
 }

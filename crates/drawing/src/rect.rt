@@ -5,7 +5,7 @@ use planes::{Course, Needle};
 
 mod making;
 
-#[derive(Clone, Copy)]
+#[derive(Clone, Copy, PartialEq, Eq, Debug)]
 pub struct Rect {
     pub x: Needle,
     pub y: Course,
@@ -17,8 +17,8 @@ pub struct Rect {
     ghost down: { y.0 + h ≤ 1024 },
 }
 
-// A rectangle as a caller gives it, with nothing checked.
-#[derive(Clone, Copy)]
+// A rectangle as a caller gives it, with nothing checked. A type of its own, since what `Rect` says of its numbers is not said of these.
+#[derive(Clone, Copy, PartialEq, Eq, Debug)]
 pub struct Frame {
     pub x: Needle,
     pub y: Course,
