@@ -10,16 +10,6 @@ use Rattle.planes.proofs.Charts.{window_bit}
 use Rattle.charting.specs.Picture.{mark_of, needles, picture}
 use Rattle.charting.specs.Rows.{marks, row_of}
 
--- one mark more
-pub marks_more : (n w m : ℕ) (was now text : List ℕ) → was ≡ text ++ marks n w → m ≡ mark_of (bit w (15 - n)) → now ≡ was ++ (m ∷ []) → now ≡ text ++ marks (n + 1) w
-marks_more n w m was now text inv is pushed =
-    pushed ∙ ap₂ (λ (xs : List ℕ) (k : ℕ). xs ++ (k ∷ [])) inv is
-    ∙ append_assoc text (marks n w) (mark_of (bit w (15 - n)) ∷ [])
-    ∙ ap (λ (k : ℕ). text ++ marks k w) (sym (add-one n))
-
-pub row_more : (w : ℕ) (was now text : List ℕ) → was ≡ text ++ marks 16 w → now ≡ was ++ (10 ∷ []) → now ≡ text ++ row_of w
-row_more w was now text inv pushed = pushed ∙ ap (λ (xs : List ℕ). xs ++ (10 ∷ [])) inv ∙ append_assoc text (marks 16 w) (10 ∷ [])
-
 -- the marks of a word are those of its stitches
 marks_needles : (n : ℕ) (c : Chart) (y : ℕ) → n ≤ 16 → marks n (window c 0 y) ≡ needles n c y
 marks_needles zero c y h = refl

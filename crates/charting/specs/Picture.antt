@@ -1,15 +1,15 @@
 -- What the program `chart` prints.
 use Rattle.std.specs.Prelude.{ℕ, zero, suc, Bool, false, cond, List, [], ◌∷◌, ◌++◌, Ok, Err, codes, decimal, Result}
-use Rattle.planes.specs.Refusals.{number}
 use Rattle.planes.specs.Chart.{Chart, chart}
 use Rattle.jobs.specs.declared.fault.Fault.{Fault}
 use Rattle.jobs.specs.declared.pen.Pen.{Pen}
+use Rattle.jobs.specs.Faults.{fault_text}
 use Rattle.jobs.specs.Runs.{job_answer, ran_to}
 
 -- ---- the first line: how the job went
 abbrev pub line : Result ℕ Fault → List ℕ
 line (Ok n) = codes "ran " ++ (decimal n ++ codes "\n")
-line (Err f) = codes "fault " ++ (decimal (number f.refusal) ++ (codes " at " ++ (decimal f.spot.place ++ codes "\n")))
+line (Err f) = fault_text f ++ codes "\n"
 
 -- ---- the picture: # for on, . for off
 abbrev pub mark_of : Bool → ℕ

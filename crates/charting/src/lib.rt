@@ -4,50 +4,44 @@
 ghost use Rattle.std.specs.Prelude.{◌≡◌, ◌-◌, ◌<◌, ◌++◌, IfOk, string_bytes, OnOk};
 ghost use Rattle.words.specs.Bit.{bit};
 ghost use Rattle.planes.specs.Chart.{chart_of, window};
-ghost use Rattle.charting.specs.Picture.{mark_of, picture, line, report, charted, pen_at_start};
+ghost use Rattle.charting.specs.Picture.{mark_of, picture, line, report, charted};
 ghost use Rattle.charting.specs.Rows.{row_of};
 
 use board::Board;
 use drawing::Brush;
 use jobs::{Fault, Origin, Pen};
 use planes::two_bed::TwoBed;
-use planes::{Course, Needle, Plane, WordNumber};
+use planes::{Course, Needle, Plane, Stretch, WordNumber};
 use std::alloc::{AllocError, Global};
 
 // How many bytes each of the two beds has.
 const BED: usize = 65536;
 
-// The pen that a job begins with: it copies the source, under a mask of ones.
-fn start_pen() -> Pen
-    ensures { result ≡ pen_at_start }
-{
-    Pen {
-        brush: Brush {
-            code: 0xCC,
-            mask: 0xFFFF,
-        },
-        origin: Origin {
-            x: Needle(0),
-            y: Course(0),
-        },
-    }
-}
+// The pen that a job begins with: it copies the source, under a mask of ones. Its zeros are written out, since a constant calls no function.
+const START: Pen = Pen {
+    brush: Brush {
+        code: 0xCC,
+        mask: 0xFFFF,
+    },
+    origin: Origin {
+        x: Needle(0),
+        y: Course(0),
+    },
+};
 
 // The line that tells how a job went.
 fn first_line(heap: Global, answer: Result<usize, Fault>) -> Result<String, AllocError>
     ensures { IfOk result (λ s. string_bytes s ≡ line answer) }
 {
+    // A match: `map_or_else` with two closures over `heap` is no plainer.
     match answer {
         Ok(fields) => format!(in heap; "ran {fields}\n"),
-        Err(fault) => {
-            let number = fault.refusal.number();
-            let place = fault.spot.place;
-            format!(in heap; "fault {number} at {place}\n")
-        }
+        Err(fault) => format!(in heap; "{fault}\n"),
     }
 }
 
 // A stitch of a word, place i from the left.
+#[tactic(auto, using(words::proofs::Whole::bit_test))]
 fn mark(word: u16, i: u16) -> char
     requires { i < 16 }
     ensures told { result ≡ mark_of (bit word (15 - i)) }
@@ -64,6 +58,7 @@ fn mark(word: u16, i: u16) -> char
 fn push_row(text: &mut String, word: u16) -> Result<(), AllocError>
     ensures { OnOk result (string_bytes text.new ≡ string_bytes text.old ++ row_of word) }
 {
+    // By number: bits are no items that could be gone through.
     for i in 0..16u16 {
         text.push(mark(word, i))?;
     }
@@ -76,19 +71,20 @@ fn first_word<P: Plane>(plane: &mut P, course: Course) -> u16
     ensures told { result ≡ window (chart_of P.height P.stitch plane.old) 0 course.0 }
     ensures same { chart_of P.height P.stitch plane.new ≡ chart_of P.height P.stitch plane.old }
 {
-    match plane.read(WordNumber(0), course) {
-        Ok(word) => word,
-        Err(_) => 0,
-    }
+    let at = Stretch {
+        word: WordNumber(0),
+        course,
+    };
+    plane.read(at).unwrap_or(0)
 }
 
 // Adds the picture: needles 0 to 15 of courses 0 to 7.
+#[tactic(auto, using(crate::proofs::Rows::picture_more))]
 fn push_picture<P: Plane>(text: &mut String, plane: &mut P) -> Result<(), AllocError>
     ensures { OnOk result (string_bytes text.new ≡ string_bytes text.old ++ picture 8 (chart_of P.height P.stitch plane.old)) }
 {
     for y in 0..8u16 {
-        let word = first_word(plane, Course(y));
-        push_row(text, word)?;
+        push_row(text, first_word(plane, Course(y)))?;
     }
     Ok(())
 }
@@ -98,7 +94,7 @@ fn report_on<P: Plane>(heap: Global, plane: &mut P, job: &[u8]) -> Result<String
     ensures { IfOk result (λ s. string_bytes s ≡ report (chart_of P.height P.stitch plane.old) job.now) }
 {
     let mut board = Board::new(plane, 0);
-    let mut pen = start_pen();
+    let mut pen = START;
     let answer = jobs::run(&mut board, job, &mut pen);
     let mut lent = board.into_plane();
     let mut text = first_line(heap, answer)?;

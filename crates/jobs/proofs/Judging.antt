@@ -33,17 +33,17 @@ JudgesFrom height p s q (Err f) = BadFrom height p s q f
 
 -- a field that passes has its task
 task_of : (h : ℕ) (p : Pen) (d : Result Task Refusal) (k : Task) → ruled_task h p d ≡ Ok k → d ≡ Ok k
-task_of h p (Err e) k is = let z : ◌≡◌ {A = ℕ} 0 1 = cc in absurd (let n : ⊥ = omega arith in n)
+task_of h p (Err e) k is = cc
 task_of h p (Ok j) k is = by (task_ruling h p j) is
   where
     by : (r : Result (Unit {0}) Refusal) → instead j r ≡ Ok k → ◌≡◌ {A = Result Task Refusal} (Ok j) (Ok k)
     by (Ok u) e = e
-    by (Err x) e = let z : ◌≡◌ {A = ℕ} 0 1 = cc in absurd (let n : ⊥ = omega arith in n)
+    by (Err x) e = cc
 
 -- no field is part of none
 none_passing : (h : ℕ) (p : Pen) → Passing h p []
-none_passing h p [] after f e = let z : ◌≡◌ {A = ℕ} 0 1 = cc in absurd (let n : ⊥ = omega arith in n)
-none_passing h p (g ∷ before) after f e = let z : ◌≡◌ {A = ℕ} 0 1 = cc in absurd (let n : ⊥ = omega arith in n)
+none_passing h p [] after f e = cc
+none_passing h p (g ∷ before) after f e = cc
 
 -- one field before those that pass
 cons_passing : (h : ℕ) (p : Pen) (f : Field) (k : Task) (fs : List Field) → verdict h p f ≡ Ok k → Passing h (pen_after k p) fs → Passing h p (f ∷ fs)

@@ -1,6 +1,6 @@
 -- A job is its fields' bytes, one after the other, and then what is cut off; and it can be read in no other way.
 -- Assumes nothing.
-use Rattle.std.proofs.Common.{◌≡◌, ℕ, zero, suc, ◌+◌, ◌*◌, ◌/◌, ◌%◌, ◌<◌, ◌≤◌, Bool, true, false, cond, ltb, List, [], ◌∷◌, ◌++◌, length, get_or, take, drop, sym, refl, ap, ◌∙◌, ap₂, append_assoc, arith}
+use Rattle.std.proofs.Common.{◌≡◌, ℕ, zero, suc, ◌+◌, ◌*◌, ◌/◌, ◌%◌, ◌<◌, ◌≤◌, Bool, true, false, cond, ltb, List, [], ◌∷◌, ◌++◌, length, get_or, take, drop, sym, refl, ap, ◌∙◌, ap₂, append_assoc, arith, Fits, w8}
 use Rattle.std.proofs.lemmas.List.{length-take, length-append, take-append-drop, take_at, drop_at}
 use Rattle.std.proofs.lemmas.Bool.{ltb-false, ltb-true, le-ltb}
 use Rattle.std.proofs.lemmas.Bool.Decides.{nat_tests}
@@ -36,11 +36,11 @@ whole_at zero (t ∷ a ∷ b ∷ rest) h small = by (ltb (length rest) (256 * a 
         let long : length (take n rest) ≡ n = length-take n rest ∙ omega arith in
         let body = sym (take-append-drop n rest) ∙ ap (λ (xs : List ℕ). take n rest ++ xs) (more fits) ∙ sym (append_assoc (take n rest) (bytes_of (parsed n rest).fields) (parsed n rest).stump) in
         λ i. t ∷ (sym (high_byte a b (length (take n rest)) (small 2) long) i ∷ (sym (low_byte a b (length (take n rest)) (small 2) long) i ∷ body i))
-whole_at (suc k) [] h small = absurd (let n : ⊥ = omega arith in n)
+whole_at (suc k) [] h small = absurd (omega arith)
 whole_at (suc k) (b ∷ bs) h small = whole_at k bs (omega arith) (λ i. small (suc i))
 
 cut_at : (k : ℕ) (bs : List ℕ) → k ≤ length bs → 0 < length (parsed k bs).stump → cut_off (parsed k bs).stump ≡ true
-cut_at zero [] h some = absurd (let n : ⊥ = omega arith in n)
+cut_at zero [] h some = absurd (omega arith)
 cut_at zero (t ∷ []) h some = refl
 cut_at zero (t ∷ a ∷ []) h some = refl
 cut_at zero (t ∷ a ∷ b ∷ rest) h some = by (ltb (length rest) (256 * a + b)) refl (λ fits. cut_at (256 * a + b) rest fits) some
@@ -51,7 +51,7 @@ cut_at zero (t ∷ a ∷ b ∷ rest) h some = by (ltb (length rest) (256 * a + b
         cut_off (cond q (stumped (t ∷ a ∷ b ∷ rest)) (headed (record { tag = t; payload = take (256 * a + b) rest }) (parsed (256 * a + b) rest))).stump ≡ true
     by true is more some = let short : length rest < 256 * a + b = ltb-true (length rest) (256 * a + b) is in grind (arith, nat_tests)
     by false is more some = more (ltb-false (length rest) (256 * a + b) is) some
-cut_at (suc k) [] h some = absurd (let n : ⊥ = omega arith in n)
+cut_at (suc k) [] h some = absurd (omega arith)
 cut_at (suc k) (b ∷ bs) h some = cut_at k bs (omega arith) some
 
 -- ---- and in no other way
@@ -71,8 +71,8 @@ read_back (f ∷ fs) stump cut =
     ∙ ap (λ (q : Bool). cond q (stumped whole) (headed (record { tag = f.tag; payload = take n rest }) (parsed n rest))) (le-ltb (length rest) n room)
     ∙ ap₂ (λ (xs : List ℕ) (p : Parsed). headed (record { tag = f.tag; payload = xs }) p) front (skip n rest room ∙ ap (parsed 0) back ∙ read_back fs stump cut)
 
-pub apart : (job : List ℕ) → Small job → Apart job
-apart job small = record {
-  reads = record { whole = whole_at 0 job (omega arith) small; cut = cut_at 0 job (omega arith) };
+pub apart : (job : List ℕ) → ((i : ℕ) → Fits w8 (get_or job i 0)) → Apart job
+apart job fits = record {
+  reads = record { whole = whole_at 0 job (omega arith) (λ i. (fits i).fits); cut = cut_at 0 job (omega arith) };
   alone = λ p r. sym (read_back p.fields p.stump r.cut) ∙ ap (parsed 0) (sym r.whole);
 }

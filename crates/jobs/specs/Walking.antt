@@ -1,15 +1,18 @@
--- The steps by which a job is read and carried out. Only private functions cite these.
-use Rattle.std.specs.Prelude.{ℕ, ◌+◌, min, cond, List, take, drop, Ok, Err, Result, slice_index}
-use Rattle.planes.specs.Answer.{instead}
+-- How a job is read and carried out, one field after the other. Only private functions cite these.
+use Rattle.std.specs.Prelude.{◌≡◌, ℕ, ◌+◌, min, cond, List, [], length, take, drop, Ok, Err, Result, Some, None, Option, slice_index}
 use Rattle.planes.specs.declared.refusal.Refusal.{Refusal}
 use Rattle.planes.specs.declared.refusal.Refusal.TheVariants.{Truncated}
 use Rattle.planes.specs.Chart.{Chart}
 use Rattle.drawing.specs.Figures.{Area}
+use Rattle.jobs.specs.declared.fault.Fault.{Fault}
+use Rattle.jobs.specs.declared.fault.Spot.{Spot}
 use Rattle.jobs.specs.declared.pen.Origin.{Origin}
 use Rattle.jobs.specs.declared.pen.Pen.{Pen}
 use Rattle.jobs.specs.declared.task.Task.{Task}
-use Rattle.jobs.specs.Format.{payload_size, cut_off}
-use Rattle.jobs.specs.Tasks.{decoded, task_ruling, carried}
+use Rattle.jobs.specs.Format.{Field, payload_size, cut_off, parsed, headed}
+use Rattle.jobs.specs.Faults.{past}
+use Rattle.jobs.specs.Tasks.{decoded, carried}
+use Rattle.jobs.specs.Runs.{judged_from}
 
 -- a place moved by the origin, as sixteen bits have it: a sum that does not fit is the largest number
 abbrev pub clipped : Origin → Area → Area
@@ -29,13 +32,20 @@ with_size n (Err e) = Err e
 abbrev pub first_of : List ℕ → Result (Task × ℕ) Refusal
 first_of bytes = cond (cut_off bytes) (Err Truncated) (with_size (3 + payload_size bytes) (decoded (slice_index bytes 0) (take (payload_size bytes) (drop 3 bytes))))
 
-abbrev pub allowed : (height : ℕ) → Pen → Result (Task × ℕ) Refusal → Result (Task × ℕ) Refusal
-allowed height p (Ok q) = instead q (task_ruling height p q.0)
-allowed height p (Err e) = Err e
+-- ---- one step, from a spot and the bytes that are left there to the next
+-- a field is taken, with the task that it asks for
+pub record Takes (s : Spot) (bytes : List ℕ) (k : Task) (t : Spot) (rest : List ℕ) : Type 0 where
+  pub field : Field
+  pub reads : parsed 0 bytes ≡ headed field (parsed 0 rest)
+  pub asks : decoded field.tag field.payload ≡ Ok k
+  pub moves : t ≡ past (3 + length field.payload) s
 
-abbrev pub examined : (height : ℕ) → Pen → List ℕ → Result (Task × ℕ) Refusal
-examined height p bytes = allowed height p (first_of bytes)
+-- a fault is found: whatever the height and the pen, the job is refused so
+abbrev pub Finds : Spot → List ℕ → Fault → Type 0
+Finds s bytes f = (height : ℕ) (p : Pen) → judged_from height p s bytes ≡ Err f
 
-abbrev pub performed : Result (Task × ℕ) Refusal → Pen → Chart → Chart
-performed (Ok q) p c = carried p q.0 c
-performed (Err e) p c = c
+-- what the step gives; after a fault nothing is left
+abbrev pub Gives : Spot → List ℕ → Option (Result (Task × Spot) Fault) → Spot → List ℕ → Type 0
+Gives s bytes None t rest = (bytes ≡ []) × (rest ≡ []) × (t ≡ s)
+Gives s bytes (Some (Ok q)) t rest = (q.1 ≡ s) × Takes s bytes q.0 t rest
+Gives s bytes (Some (Err f)) t rest = (rest ≡ []) × Finds s bytes f

@@ -1,11 +1,13 @@
 // Where a job went wrong.
-ghost use Rattle.std.specs.Prelude.{◌≡◌};
-ghost use Rattle.jobs.specs.Faults.{blamed};
+ghost use Rattle.std.specs.Prelude.{◌≡◌, Some};
+ghost use Rattle.jobs.specs.Faults.{blamed, fault_text};
 
 use planes::Refusal;
+use std::error::Error;
+use std::fmt;
 
 // A field's place in the job: its tag's byte, and how many fields stand before it.
-#[derive(Clone, Copy, PartialEq, Eq, Debug)]
+#[derive(Clone, Copy, PartialEq, Eq, Debug, Default)]
 pub struct Spot {
     pub place: usize,
     pub before: usize,
@@ -23,12 +25,22 @@ impl Spot {
     pub(crate) fn blame<T>(self, res: Result<T, Refusal>) -> Result<T, Fault>
         ensures { result ≡ blamed self res }
     {
-        match res {
-            Ok(value) => Ok(value),
-            Err(refusal) => Err(Fault {
-                refusal,
-                spot: self,
-            }),
-        }
+        res.map_err(|refusal| Fault {
+            refusal,
+            spot: self,
+        })
     }
 }
+
+// The refusal by its number, and the place.
+impl fmt::Display for Fault {
+    ghost output = { λ f. Some (fault_text f) };
+
+    fn fmt<W: fmt::Write>(&self, f: &mut fmt::Formatter<W>) -> fmt::Result {
+        let refusal = self.refusal;
+        let place = self.spot.place;
+        write!(f, "fault {refusal} at {place}")
+    }
+}
+
+impl Error for Fault {}

@@ -8,14 +8,14 @@ use crate::task::Task;
 use drawing::{Brush, Frame};
 use planes::{Course, Needle};
 
-// What is added to every place of a job.
-#[derive(Clone, Copy)]
+// What is added to every place of a job. Not a `Cursor`, though it looks alike: it is no place, and neither is taken for the other.
+#[derive(Clone, Copy, PartialEq, Eq, Debug)]
 pub struct Origin {
     pub x: Needle,
     pub y: Course,
 }
 
-#[derive(Clone, Copy)]
+#[derive(Clone, Copy, PartialEq, Eq, Debug)]
 pub struct Pen {
     pub brush: Brush,
     pub origin: Origin,
@@ -29,8 +29,7 @@ impl Pen {
         Frame {
             x: Needle(frame.x.0.saturating_add(self.origin.x.0)),
             y: Course(frame.y.0.saturating_add(self.origin.y.0)),
-            w: frame.w,
-            h: frame.h,
+            ..frame
         }
     }
 

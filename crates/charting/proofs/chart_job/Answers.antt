@@ -1,12 +1,9 @@
 use Rattle.std.proofs.Common.{◌≡◌, ℕ, List, string_bytes, ap, ◌∙◌}
-use Rattle.std.proofs.lemmas.Result.{IfOk-from_err, IfOk-weaker}
+use Rattle.std.proofs.lemmas.Result.{IfOk-weaker}
 use Rattle.planes.specs.Chart.{Chart}
 use Rattle.charting.specs.Picture.{report, charted}
 use Rattle.charting.proofs.Rows.{blank_beds}
 use Rattle.charting.proofs.chart_job.Goals as goal
-
-pub returns-in_err-back : goal.returns-in_err-back
-returns-in_err-back c = IfOk-from_err _ _ c.from_residual-in_err-back.ensures.0
 
 pub returns : goal.returns
 returns c =

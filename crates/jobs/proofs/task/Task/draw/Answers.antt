@@ -1,35 +1,33 @@
-use Rattle.std.proofs.Common.{ℕ, ◌≤◌, Bool, cond, Err, Result, sym, ap, ◌∙◌, arith}
+use Rattle.std.proofs.Common.{◌≡◌, ◌≤◌, false, Result, ap, ◌∙◌, sym, arith}
+use Rattle.std.proofs.lemmas.Grind.{common_steps}
 use Rattle.planes.specs.Answer.{instead}
 use Rattle.planes.specs.declared.refusal.Refusal.{Refusal}
-use Rattle.planes.specs.declared.refusal.Refusal.TheVariants.{WordUnderWay}
-use Rattle.planes.proofs.Charts.{chart_height}
-use Rattle.board.specs.State.{State, state_of}
-use Rattle.drawing.specs.Figures.{Area, ruled}
+use Rattle.board.specs.State.{State, state_of, busy}
+use Rattle.drawing.specs.declared.rect.Frame.{Frame}
+use Rattle.drawing.specs.Figures.{Area}
 use Rattle.drawing.specs.Given.{area}
-use Rattle.drawing.specs.Fills.{filled}
-use Rattle.jobs.specs.Tasks.{task_ruling}
-use Rattle.jobs.specs.Walking.{drawn_by}
-use Rattle.jobs.proofs.Clips.{clip}
-use Rattle.jobs.proofs.Draws.{fill_drawn}
+use Rattle.drawing.specs.Fills.{fill_ruling, filled}
+use Rattle.jobs.specs.declared.pen.Pen.{Pen}
+use Rattle.jobs.specs.declared.task.Task.{Task}
+use Rattle.jobs.specs.declared.task.Task.TheVariants.{Fill}
+use Rattle.jobs.specs.Walking.{clipped, drawn_by}
+use Rattle.jobs.proofs.Draws.{chart_low}
 use Rattle.jobs.proofs.task.Task.draw.Goals as goal
 
-pub returns-in-Fill : goal.returns-in-Fill
-returns-in-Fill g c =
-    let was : State = state_of g.P.Plane.height g.P.Plane.stitch c.args.board.now in
-    let h : ℕ = was.shown.height in
-    let low : h ≤ 1024 = omega (arith, chart_height (g.P.Plane.height c.args.board.now.plane).rows (g.P.Plane.stitch c.args.board.now.plane), (g.P.Plane.height c.args.board.now.plane).low) in
-    let ruling =
-    ap (λ (b : Bool). cond b (Err WordUnderWay) (ruled h (area c.place.result))) c.requires.idle
-    ∙ ap (ruled h) c.place.ensures
-    ∙ clip h c.args.pen.origin (area c.in-Fill.frame) low in
-    let told = c.fill.ensures.told ∙ ap (instead tt) ruling in
-    record {
-      told = told ∙ ap (task_ruling h c.args.pen) (sym c.in-Fill.is);
-      shown =
-          c.fill.ensures.shown
-          ∙ ap (λ (r : Result Area Refusal). filled r c.args.pen.brush.code c.args.pen.brush.mask was.shown) ruling
-          ∙ fill_drawn h c.args.pen c.in-Fill.frame was.shown
-          ∙ (λ i. drawn_by (sym told i) c.args.pen (sym c.in-Fill.is i) was.shown);
-      left = c.fill.ensures.left;
-      rest = c.fill.ensures.rest;
-    }
+-- an accepted fill draws the rectangle that was asked for, and a refused one nothing
+fill_drawn : (s : State) (p : Pen) (f : Frame) (a : Area) (r : Result (Unit {0}) Refusal) → busy s ≡ false → s.shown.height ≤ 1024 → a ≡ clipped p.origin (area f) → r ≡ instead tt (fill_ruling s a) →
+    filled (fill_ruling s a) p.brush.code p.brush.mask s.shown ≡ drawn_by r p (Fill f) s.shown
+fill_drawn s p f a r idle low at told = grind (arith, common_steps)
+
+pub returns-in-Fill-clause-told : goal.returns-in-Fill-clause-told
+returns-in-Fill-clause-told g c =
+    let low = chart_low (g.P.Plane.height c.args.board.now.plane) (g.P.Plane.stitch c.args.board.now.plane) in
+    grind (arith, common_steps)
+
+pub returns-in-Fill-clause-shown : goal.returns-in-Fill-clause-shown
+returns-in-Fill-clause-shown g c =
+    let was : State = state_of g.P.Plane c.args.board.now in
+    let low = chart_low (g.P.Plane.height c.args.board.now.plane) (g.P.Plane.stitch c.args.board.now.plane) in
+    c.fill.ensures.shown
+    ∙ fill_drawn was c.args.pen c.in-Fill.frame (area c.place.result) c.fill.result c.requires.idle low c.place.ensures c.fill.ensures.told
+    ∙ ap (λ (k : Task). drawn_by c.fill.result c.args.pen k was.shown) (sym c.in-Fill.is)
