@@ -1,27 +1,11 @@
 // What is read: words, lifted rectangles and scanned courses.
+use crate::given::{frame, place};
 use board::Board;
 use client::{word_at, words_at};
-use drawing::{Frame, lift};
+use drawing::lift;
 use planes::flat::Flat;
-use planes::{Course, Needle, Refusal};
-use registers::Cursor;
+use planes::{Course, Refusal};
 use std::test::Fail;
-
-fn place(x: u16, y: u16) -> Cursor {
-    Cursor {
-        x: Needle(x),
-        y: Course(y),
-    }
-}
-
-fn frame(x: u16, y: u16, w: u16, h: u16) -> Frame {
-    Frame {
-        x: Needle(x),
-        y: Course(y),
-        w,
-        h,
-    }
-}
 
 #[test]
 fn words_ahead_at_every_alignment(rt: HostRuntime) {
@@ -119,14 +103,10 @@ fn the_last_course_is_not_lost(rt: HostRuntime) -> Result<(), Fail> {
 
 // Whether the first 128 bytes are one value, and the others still 0xAA.
 fn painted(buffer: &[u8], value: u8) -> bool {
-    let mut right = true;
-    for (i, byte) in buffer.iter().enumerate() {
-        let expected = if i < 128 { value } else { 0xAA };
-        if *byte != expected {
-            right = false;
-        }
-    }
-    right
+    buffer
+        .iter()
+        .enumerate()
+        .all(|(i, byte)| *byte == if i < 128 { value } else { 0xAA })
 }
 
 #[test]

@@ -4,6 +4,8 @@
 #[cfg(test)]
 mod buffers;
 #[cfg(test)]
+mod given;
+#[cfg(test)]
 mod lists;
 #[cfg(test)]
 mod piles;

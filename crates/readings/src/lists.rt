@@ -1,12 +1,11 @@
 // Lists of every call that is there.
-use drawing::{Brush, Frame};
+use crate::given::{frame, place};
+use drawing::Brush;
 use jobs::{Fault, Origin, Pen, Spot};
 use planes::flat::Flat;
-use planes::two_bed::TwoBed;
 use planes::{Course, Needle, Refusal};
-use registers::Cursor;
+use rule::{Answer, Call, Step, play};
 use std::test::Fail;
-use whole_rule::{Answer, Call, Step, play};
 
 fn step(call: Call) -> Step {
     Step {
@@ -15,97 +14,33 @@ fn step(call: Call) -> Step {
     }
 }
 
-fn pen(code: u8) -> Pen {
-    Pen {
-        brush: Brush { code, mask: 0xF0F0 },
-        origin: Origin {
-            x: Needle(2),
-            y: Course(0),
-        },
-    }
-}
-
-#[test]
-fn one_after_the_other(rt: HostRuntime) -> Result<(), Fail> {
-    let good = b"F\0\x08\0\0\0\0\0\x08\0\x01".to_vec(rt.alloc())?;
-    let bad = b"F\0\x08\0\0\0\x01\0\x08\0\x01".to_vec(rt.alloc())?;
-    let frame = Frame {
-        x: Needle(0),
-        y: Course(0),
-        w: 16,
-        h: 1,
-    };
-    let brush = Brush {
-        code: 0x66,
-        mask: 0,
-    };
-    let mut steps = [
-        step(Call::Fill { frame, brush }),
-        step(Call::Poke {
-            address: 0x4002,
-            value: 3,
-        }),
-        step(Call::Peek { address: 0x2_0000 }),
-        step(Call::Run {
-            job: good,
-            pen: pen(0xC0),
-        }),
-        step(Call::Run {
-            job: bad,
-            pen: pen(0xC0),
-        }),
-        step(Call::Init),
-        step(Call::Retrace),
-        step(Call::Interrupt),
-    ];
-    let mut front = [0u8; 64];
-    let mut back = [0u8; 64];
-    let plane = TwoBed::new(&mut front, &mut back);
-    let plane = play(plane, 0, &mut steps);
-    drop(plane);
-    assert_eq!(rt; front[0], 0xCF);
-    assert_eq!(rt; back[0], 0xCF);
-    let filled = &steps[0];
-    assert_eq!(rt; filled.answer, Answer::Done);
-    let peeked = &steps[2];
-    assert_eq!(rt; peeked.answer, Answer::Refused(Refusal::OtherUnit));
-    let ran = &steps[3];
-    assert_eq!(rt; ran.answer, Answer::Ran(1));
-    let refused = &steps[4];
-    assert_eq!(rt; refused.answer, faulty(Refusal::OffChart));
-    Ok(())
-}
-
 // A fault at the first field.
 fn faulty(refusal: Refusal) -> Answer {
     Answer::Faulty(Fault {
         refusal,
-        spot: Spot {
-            place: 0,
-            before: 0,
-        },
+        spot: Spot::default(),
     })
 }
 
 fn begin(x: u16, y: u16) -> Step {
-    step(Call::Begin {
-        at: Cursor {
-            x: Needle(x),
-            y: Course(y),
-        },
-    })
+    step(Call::Begin { at: place(x, y) })
 }
 
 #[test]
 fn while_a_word_is_under_way(rt: HostRuntime) -> Result<(), Fail> {
-    let frame = Frame {
-        x: Needle(0),
-        y: Course(0),
-        w: 16,
-        h: 1,
-    };
+    let frame = frame(0, 0, 16, 1);
     let brush = Brush { code: 0, mask: 0 };
     let job = Vec::new(rt.alloc());
+    let pen = Pen {
+        brush: Brush {
+            code: 0,
+            mask: 0xF0F0,
+        },
+        origin: Origin {
+            x: Needle(2),
+            y: Course(0),
+        },
+    };
     let lifted = vec![in rt.alloc(); 0x55u8; 2]?;
     let scanned = vec![in rt.alloc(); 0x55u8; 128]?;
     let mut steps = [
@@ -115,7 +50,7 @@ fn while_a_word_is_under_way(rt: HostRuntime) -> Result<(), Fail> {
             frame,
             buffer: lifted,
         }),
-        step(Call::Run { job, pen: pen(0) }),
+        step(Call::Run { job, pen }),
         begin(0, 1),
         step(Call::Peek { address: 0 }),
         step(Call::Poke {
@@ -168,12 +103,7 @@ fn buffers_of_a_list(rt: HostRuntime) -> Result<(), Fail> {
     let again = vec![in rt.alloc(); 0x55u8; 128]?;
     let mut steps = [
         step(Call::Lift {
-            frame: Frame {
-                x: Needle(5),
-                y: Course(0),
-                w: 5,
-                h: 1,
-            },
+            frame: frame(5, 0, 5, 1),
             buffer: lifted,
         }),
         step(Call::Scan {

@@ -1,2 +1,4 @@
+pub mod Free
 pub mod Performed
+pub mod Spares
 pub mod Turns

@@ -1,60 +1,62 @@
 -- One turn of a list of steps: the step at i is done, and those past it are still to do.
 -- Assumes nothing.
-use Rattle.std.proofs.Common.{◌≡◌, ℕ, ◌+◌, ◌<◌, ◌≤◌, List, [], ◌∷◌, ◌++◌, map, length, get_or, take, drop, set, sym, ap, ◌∙◌, subst, ap₂, append_assoc, append-nil, arith}
-use Rattle.std.proofs.lemmas.List.{drop_more, drop-set-lt, drop_all, take_more_set, take_all, map_push, map-set, set-get_or, get_or-map}
+use Rattle.std.proofs.Common.{◌≡◌, ℕ, ◌+◌, ◌<◌, List, [], ◌∷◌, ◌++◌, map, length, get_or, take, drop, set, Option, sym, ap, ◌∙◌, subst, ap₂, subst₂, append_assoc, arith}
+use Rattle.std.proofs.lemmas.List.{drop_more, drop-set-lt, take_more_set, map_push}
+use Rattle.board.specs.State as board
 use Rattle.rule.specs.declared.Step.{Step}
-use Rattle.rule.specs.Rule.{State, Asked, Told, Clear, AllClear, ruling, next, final, outcomes}
-use Rattle.rule.specs.Calls.{question, told}
+use Rattle.rule.specs.Rule.{Place, State, Clear}
+use Rattle.rule.specs.Lists.{Question, Told, AllClear, next, final, status_after, outcome, outcomes}
+use Rattle.rule.specs.Calls.{question, request, told}
+use Rattle.rule.specs.Following.{rule_of, Keeps, Agrees, Follows}
 
-module _ (s : State) (steps : List Step) (i : ℕ) (d k : Step) (lt : i < length steps) (same : question k ≡ question (get_or steps i d)) where
+-- after i steps the board and the rule are side by side: what is left gives the last state, and the answers so far with those of what is left are all of them
+pub record Playing (first : State) (status : ℕ) (all : List Question) (s : board.State) (steps : List Step) (i : ℕ) : Type 0 where
+  pub place : Option Place
+  pub keeps : Keeps place s
+  pub clear : AllClear (rule_of place s) (map question (drop i steps))
+  pub left : final (rule_of place s) (map question (drop i steps)) ≡ final first all
+  pub answers : map told (take i steps) ++ outcomes (rule_of place s) s.regs.status (map question (drop i steps)) ≡ outcomes first status all
+
+module _ (steps : List Step) (i : ℕ) (d k : Step) (lt : i < length steps) (same : request k ≡ request (get_or steps i d)) where
   rest : drop (i + 1) (set steps i k) ≡ drop (i + 1) steps
   rest = drop-set-lt (i + 1) steps i k (omega arith)
 
   split : map question (drop i steps) ≡ question (get_or steps i d) ∷ map question (drop (i + 1) steps)
   split = ap (map question) (drop_more steps i d lt)
 
-  -- the calls stay
-  pub calls_more : {goal : List Asked} → map question steps ≡ goal → map question (set steps i k) ≡ goal
-  calls_more inv =
-      map-set question steps i k
-      ∙ ap (set (map question steps) i) (same ∙ sym (get_or-map question steps i d (question d) lt))
-      ∙ set-get_or (map question steps) i (question d)
-      ∙ inv
+  module _ (first : State) (status : ℕ) (all : List Question) (s t : board.State) (so_far : Playing first status all s steps i) (follows : Follows (question (get_or steps i d)) s k.answer (question k) t) where
+    abbrev q : Question
+    q = question (get_or steps i d)
 
-  -- what is left has no poke with update either
-  pub clear_now : AllClear (map question (drop i steps)) → Clear (question (get_or steps i d))
-  clear_now all = (subst AllClear split all).0
+    abbrev here : State
+    here = rule_of so_far.place s
 
-  pub clear_more : AllClear (map question (drop i steps)) → AllClear (map question (drop (i + 1) (set steps i k)))
-  clear_more all = subst (λ (xs : List Step). AllClear (map question xs)) (sym rest) (subst AllClear split all).1
+    now_clear : Clear here q.call
+    now_clear = (subst (AllClear here) split so_far.clear).0
 
-  pub final_more : {goal : State} (t : State) → t ≡ next s (question (get_or steps i d)) → final s (map question (drop i steps)) ≡ goal → final t (map question (drop (i + 1) (set steps i k))) ≡ goal
-  final_more t done inv =
-      ap₂ (λ (u : State) (xs : List Step). final u (map question xs)) done rest
-      ∙ ap (final s) (sym split)
-      ∙ inv
+    agrees : Agrees so_far.place q s k.answer (question k) t
+    agrees = follows so_far.place so_far.keeps now_clear
 
-  pub answers_more : {goal : List Told} (t : State) → t ≡ next s (question (get_or steps i d)) → k.answer ≡ ruling s (question (get_or steps i d)) →
-      map told (take i steps) ++ outcomes s (map question (drop i steps)) ≡ goal →
-      map told (take (i + 1) (set steps i k)) ++ outcomes t (map question (drop (i + 1) (set steps i k))) ≡ goal
-  answers_more t done said inv =
-      let front : List Told = map told (take i steps) in
-      let q : Asked = question (get_or steps i d) in
-      ap₂ (λ (u : State) (xs : List Step). map told (take (i + 1) (set steps i k)) ++ outcomes u (map question xs)) done rest
-      ∙ ap (λ (xs : List Step). map told xs ++ outcomes (next s q) (map question (drop (i + 1) steps))) (take_more_set steps i k lt)
-      ∙ ap (λ (xs : List Told). xs ++ outcomes (next s q) (map question (drop (i + 1) steps))) (map_push told (take i steps) k)
-      ∙ append_assoc front (told k ∷ []) (outcomes (next s q) (map question (drop (i + 1) steps)))
-      ∙ (λ j. front ++ (record { call = same j; answer = said j } ∷ outcomes (next s q) (map question (drop (i + 1) steps))))
-      ∙ ap (λ (xs : List Asked). front ++ outcomes s xs) (sym split)
-      ∙ inv
+    said : told k ≡ outcome here s.regs.status q
+    said = λ j. record { question = record { call = same j; bytes = agrees.bytes_are j }; answer = agrees.answer_is j }
 
-module _ (s : State) (steps : List Step) (i : ℕ) (over : length steps ≤ i) where
-  pub final_all : {goal : State} → final s (map question (drop i steps)) ≡ goal → s ≡ goal
-  final_all inv = ap (λ (xs : List Step). final s (map question xs)) (sym (drop_all i steps over)) ∙ inv
+    answers_more : map told (take (i + 1) (set steps i k)) ++ outcomes (rule_of (next here q).place t) t.regs.status (map question (drop (i + 1) (set steps i k))) ≡ outcomes first status all
+    answers_more =
+        let front : List Told = map told (take i steps) in
+        let later : List Told = outcomes (next here q) (status_after here q.call s.regs.status) (map question (drop (i + 1) steps)) in
+        (λ j. map told (take (i + 1) (set steps i k)) ++ outcomes (agrees.after_is j) (agrees.status_is j) (map question (rest j)))
+        ∙ ap (λ (xs : List Step). map told xs ++ later) (take_more_set steps i k lt)
+        ∙ ap (λ (xs : List Told). xs ++ later) (map_push told (take i steps) k)
+        ∙ append_assoc front (told k ∷ []) later
+        ∙ ap (λ (o : Told). front ++ (o ∷ later)) said
+        ∙ ap (λ (xs : List Question). front ++ outcomes here s.regs.status xs) (sym split)
+        ∙ so_far.answers
 
-  pub answers_all : {goal : List Told} → map told (take i steps) ++ outcomes s (map question (drop i steps)) ≡ goal → map told steps ≡ goal
-  answers_all inv =
-      sym (append-nil (map told steps))
-      ∙ ap (λ (xs : List Step). map told xs ++ []) (sym (take_all i steps over))
-      ∙ ap (λ (xs : List Step). map told (take i steps) ++ outcomes s (map question xs)) (sym (drop_all i steps over))
-      ∙ inv
+    pub playing_more : Playing first status all t (set steps i k) (i + 1)
+    playing_more = record {
+      place = (next here q).place;
+      keeps = agrees.keeps;
+      clear = subst₂ (λ (u : State) (xs : List Step). AllClear u (map question xs)) (sym agrees.after_is) (sym rest) (subst (AllClear here) split so_far.clear).1;
+      left = ap₂ (λ (u : State) (xs : List Step). final u (map question xs)) agrees.after_is rest ∙ ap (final here) (sym split) ∙ so_far.left;
+      answers = answers_more;
+    }

@@ -1,27 +1,37 @@
 -- The calls of the program as the rule has them.
-use Rattle.std.specs.Prelude.{vec_items}
-use Rattle.board.specs.State as board
+use Rattle.std.specs.Prelude.{[], length, vec_items}
 use Rattle.drawing.specs.Given.{area}
 use Rattle.rule.specs.declared.Call.{Call}
-use Rattle.rule.specs.declared.Call.TheVariants.{Fill, Run, Peek, Poke, Init, Retrace, Interrupt}
+use Rattle.rule.specs.declared.Call.TheVariants.{Fill, Lift, Run, Begin, Collect, GiveUp, Scan, Peek, Poke, Init, Retrace, Interrupt}
 use Rattle.rule.specs.declared.Step.{Step}
-use Rattle.rule.specs.Rule.{Asked, fill, run, peek, poke, init, retrace, interrupt, State, Told}
+use Rattle.rule.specs.Rule.{Asked, fill, lift, run, begin, collect, give_up, scan, peek, poke, init, retrace, interrupt}
+use Rattle.rule.specs.Lists.{Question, Told}
 
-abbrev pub asked : Call → Asked
-asked (Fill f b) = fill (area f) b.code b.mask
-asked (Run job p) = run (vec_items job) p
-asked (Peek a) = peek a
-asked (Poke a n) = poke a n
-asked Init = init
-asked Retrace = retrace
-asked Interrupt = interrupt
+-- a call with no buffer
+abbrev pub unbuffered : Asked → Question
+unbuffered a = record { call = a; bytes = [] }
 
-abbrev pub question : Step → Asked
+abbrev pub asked : Call → Question
+asked (Fill f b) = unbuffered (fill (area f) b.code b.mask)
+asked (Lift f buffer) = record { call = lift (area f) (length (vec_items buffer)); bytes = vec_items buffer }
+asked (Run job p) = unbuffered (run (vec_items job) p)
+asked (Begin at) = unbuffered (begin at.x.0 at.y.0)
+asked Collect = unbuffered collect
+asked GiveUp = unbuffered give_up
+asked (Scan y buffer) = record { call = scan y.0 (length (vec_items buffer)); bytes = vec_items buffer }
+asked (Peek a) = unbuffered (peek a)
+asked (Poke a n) = unbuffered (poke a n)
+asked Init = unbuffered init
+asked Retrace = unbuffered retrace
+asked Interrupt = unbuffered interrupt
+
+-- the call of a step, with the bytes of its buffer
+abbrev pub question : Step → Question
 question s = asked s.call
 
-abbrev pub told : Step → Told
-told s = record { call = asked s.call; answer = s.answer }
+-- the call alone; of a buffer, its size
+abbrev pub request : Step → Asked
+request s = (asked s.call).call
 
--- what the rule keeps of a board
-abbrev pub rule_of : board.State → State
-rule_of s = record { chart = s.shown; unit = s.regs.unit }
+abbrev pub told : Step → Told
+told s = record { question = asked s.call; answer = s.answer }

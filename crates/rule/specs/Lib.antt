@@ -1,2 +1,4 @@
 pub mod Rule
+pub mod Lists
 pub mod Calls
+pub mod Following

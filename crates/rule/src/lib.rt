@@ -1,22 +1,32 @@
 // Lists of calls on a new board, held to the stitch rule.
 #![tactic(auto)]
 
-ghost use Rattle.std.specs.Prelude.{◌≡◌, false, map};
+ghost use Rattle.std.specs.Prelude.{◌≡◌, map};
 ghost use Rattle.planes.specs.Chart.{chart_of};
-ghost use Rattle.board.specs.State.{state_of, busy};
-ghost use Rattle.rule.specs.Calls.{asked, question, told, rule_of};
-ghost use Rattle.rule.specs.Rule.{Clear, AllClear, ruling, next, final, outcomes, begun, settled, reported};
+ghost use Rattle.rule.specs.Calls.{question, request, told};
+ghost use Rattle.rule.specs.Rule.{settled, reported};
+ghost use Rattle.rule.specs.Lists.{AllClear, final, outcomes, at_first};
 
 use board::Board;
 use drawing::{Brush, Frame};
 use jobs::{Fault, Pen};
-use planes::{Plane, Refusal};
+use planes::flat::Flat;
+use planes::{Course, Plane, Refusal};
+use player::Player;
+use registers::Cursor;
+
+mod player;
 
 // A call with its arguments.
 #[derive(Drop)]
 pub enum Call {
     Fill { frame: Frame, brush: Brush },
+    Lift { frame: Frame, buffer: Vec<u8> },
     Run { job: Vec<u8>, pen: Pen },
+    Begin { at: Cursor },
+    Collect,
+    GiveUp,
+    Scan { course: Course, buffer: Vec<u8> },
     Peek { address: u32 },
     Poke { address: u32, value: u16 },
     Init,
@@ -24,11 +34,13 @@ pub enum Call {
     Interrupt,
 }
 
-// What the rule says of a call: done, refused, or how a job went.
-#[derive(Clone, Copy)]
+// What the rule says of a call: done, refused, the word collected, or how a job went.
+// One enum: a `Result` would need an enum on each side, and nothing is done with an answer but compare it.
+#[derive(Clone, Copy, PartialEq, Eq, Debug)]
 pub enum Answer {
     Done,
     Refused(Refusal),
+    Collected(u16),
     Ran(usize),
     Faulty(Fault),
 }
@@ -41,65 +53,42 @@ pub struct Step {
 }
 
 // The answer of a call by whether it was refused.
-fn settle<T: Drop>(res: Result<T, Refusal>) -> Answer
-    ensures { result ≡ settled res }
-{
-    match res {
-        Ok(_) => Answer::Done,
-        Err(refusal) => Answer::Refused(refusal),
+impl<T: Drop> From<Result<T, Refusal>> for Answer {
+    ghost from_gives = { λ res answer. answer ≡ settled res };
+
+    fn from(res: Result<T, Refusal>) -> Answer {
+        res.map_or_else(Answer::Refused, |_| Answer::Done)
     }
 }
 
 // The answer of a job.
-fn report(res: Result<usize, Fault>) -> Answer
-    ensures { result ≡ reported res }
-{
-    match res {
-        Ok(fields) => Answer::Ran(fields),
-        Err(fault) => Answer::Faulty(fault),
-    }
-}
+impl From<Result<usize, Fault>> for Answer {
+    ghost from_gives = { λ res answer. answer ≡ reported res };
 
-// Makes one call.
-fn perform<P: Plane>(board: &mut Board<P>, call: &mut Call) -> Answer
-    requires idle { busy (state_of P.height P.stitch board.old) ≡ false }
-    ensures answer { Clear (asked call.old) → result ≡ ruling (rule_of (state_of P.height P.stitch board.old)) (asked call.old) }
-    ensures next { Clear (asked call.old) → rule_of (state_of P.height P.stitch board.new) ≡ next (rule_of (state_of P.height P.stitch board.old)) (asked call.old) }
-    ensures call { asked call.new ≡ asked call.old }
-    ensures idle { busy (state_of P.height P.stitch board.new) ≡ false }
-    ensures rest { P.rest board.new.plane ≡ P.rest board.old.plane }
-{
-    match call {
-        Call::Fill { frame, brush } => settle(drawing::fill(board, *frame, *brush)),
-        Call::Run { job, pen } => report(jobs::run(board, job.as_slice(), pen)),
-        Call::Peek { address } => settle(board.peek(*address)),
-        Call::Poke { address, value } => settle(board.poke(*address, *value)),
-        Call::Init => {
-            board.init();
-            Answer::Done
-        }
-        Call::Retrace => {
-            board.retrace();
-            Answer::Done
-        }
-        Call::Interrupt => {
-            let _ = board.interrupt();
-            Answer::Done
-        }
+    fn from(res: Result<usize, Fault>) -> Answer {
+        res.map_or_else(Answer::Faulty, Answer::Ran)
     }
 }
 
 // Puts a new board on a plane, makes every call of a list on it, writes each answer beside its call, and gives the plane back.
-// Where no poke has its update bit set, every answer and the last chart are the stitch rule's.
+// Where no accepted poke has its update bit set, every answer, every buffer and the last chart are the stitch rule's.
+// A collect or give_up with no word under way presents a slip that another board handed out, and is refused; a word under way at the end is given up.
 pub fn play<P: Plane>(plane: P, unit: u8, steps: &mut [Step]) -> P
-    ensures answers { AllClear (map question steps.old) → map told steps.new ≡ outcomes (begun unit (chart_of P.height P.stitch plane)) (map question steps.old) }
-    ensures chart { AllClear (map question steps.old) → chart_of P.height P.stitch result ≡ (final (begun unit (chart_of P.height P.stitch plane)) (map question steps.old)).chart }
-    ensures calls { map question steps.new ≡ map question steps.old }
+    ensures answers { AllClear (at_first unit (chart_of P.height P.stitch plane)) (map question steps.old) → map told steps.new ≡ outcomes (at_first unit (chart_of P.height P.stitch plane)) 0 (map question steps.old) }
+    ensures chart { AllClear (at_first unit (chart_of P.height P.stitch plane)) (map question steps.old) → chart_of P.height P.stitch result ≡ (final (at_first unit (chart_of P.height P.stitch plane)) (map question steps.old)).chart }
+    ensures calls { map request steps.new ≡ map request steps.old }
     ensures rest { P.rest result ≡ P.rest plane }
 {
-    let mut board = Board::new(plane, unit);
-    for step in steps.iter_mut() {
-        step.answer = perform(&mut board, &mut step.call);
+    let mut bytes = [0u8; 128];
+    let mut other = Board::new(Flat::new(&mut bytes), 0);
+    let spare = other.begin(Cursor::default()).unwrap();
+    let mut player = Player::new(plane, unit, spare);
+    for step in steps {
+        let (answer, next) = player.perform(&mut step.call);
+        step.answer = answer;
+        player = next;
     }
-    board.into_plane()
+    let (plane, spare) = player.end();
+    other.give_up(spare).unwrap();
+    plane
 }

@@ -1,9 +1,10 @@
 // Accesses: addresses, widths, and how often each word of the plane is asked for.
+use crate::given::frame;
 use crate::tally::Tally;
 use board::Board;
-use drawing::{Frame, lift};
+use drawing::lift;
+use planes::Refusal;
 use planes::flat::Flat;
-use planes::{Course, Needle, Plane, Refusal};
 use registers::{Access, Axis, Choice, Pair};
 
 // An access of pair 0.
@@ -165,14 +166,8 @@ fn a_lift_has_one_read_more(rt: HostRuntime) {
     let mut bytes = [0u8; 512];
     let mut board = Board::new(Tally::new(Flat::new(&mut bytes)), 0);
     let mut buffer = [0u8; 12];
-    let frame = Frame {
-        x: Needle(16),
-        y: Course(0),
-        w: 32,
-        h: 3,
-    };
     // two strips of three courses, and the course below for the last answer of each
-    assert_eq!(rt; lift(&mut board, frame, &mut buffer), Ok(()));
+    assert_eq!(rt; lift(&mut board, frame(16, 0, 32, 3), &mut buffer), Ok(()));
     let tally = board.into_plane();
     assert_eq!(rt; tally.reads(), 2 * (3 + 1));
     assert_eq!(rt; tally.writes(), 0);

@@ -8,6 +8,8 @@ mod beds;
 #[cfg(test)]
 mod fills;
 #[cfg(test)]
+mod given;
+#[cfg(test)]
 mod lists;
 #[cfg(test)]
 mod runs;

@@ -1,29 +1,20 @@
 // Jobs: cut, too long, unknown, off the chart.
+use crate::given::pen;
 use board::Board;
-use drawing::Brush;
-use jobs::{Fault, Origin, Pen, Spot, run};
+use jobs::{Fault, Pen, Spot, run};
 use planes::flat::Flat;
-use planes::{Course, Needle, Refusal};
+use planes::{Needle, Refusal};
 use std::test::Fail;
 
-fn pen() -> Pen {
-    Pen {
-        brush: Brush {
-            code: 0xCC,
-            mask: 0xFFFF,
-        },
-        origin: Origin {
-            x: Needle(0),
-            y: Course(0),
-        },
-    }
+fn plain_pen() -> Pen {
+    pen(0xCC, 0xFFFF, 0)
 }
 
 // Runs a job on a blank plane of two courses.
 fn attempt(job: &[u8]) -> Result<usize, Fault> {
     let mut bytes = [0u8; 256];
     let mut board = Board::new(Flat::new(&mut bytes), 0);
-    run(&mut board, job, &mut pen())
+    run(&mut board, job, &mut plain_pen())
 }
 
 fn fault(refusal: Refusal, place: usize, before: usize) -> Result<usize, Fault> {
@@ -81,7 +72,7 @@ fn the_drawing_has_its_own_number(rt: HostRuntime) {
 #[test]
 fn a_refused_job_draws_nothing(rt: HostRuntime) {
     let mut bytes = [0u8; 256];
-    let mut held = pen();
+    let mut held = plain_pen();
     let mut board = Board::new(Flat::new(&mut bytes), 0);
     let job = b"C\0\x01\xFFK\0\x02\0\0O\0\x04\0\0\0\0F\0\x08\0\0\0\0\0\x10\0\x02Z\0\0";
     held.origin.x = Needle(16);
@@ -89,13 +80,9 @@ fn a_refused_job_draws_nothing(rt: HostRuntime) {
         run(&mut board, job, &mut held),
         fault(Refusal::UnknownTag, 27, 4)
     );
-    assert_eq!(rt; held.brush.code, 0xCC);
-    assert_eq!(rt; held.brush.mask, 0xFFFF);
-    assert_eq!(rt; held.origin.x.0, 16);
+    assert_eq!(rt; held, pen(0xCC, 0xFFFF, 16));
     assert_eq!(rt; run(&mut board, &job[0..27], &mut held), Ok(4));
-    assert_eq!(rt; held.brush.code, 0xCC);
-    assert_eq!(rt; held.brush.mask, 0xFFFF);
-    assert_eq!(rt; held.origin.x.0, 16);
+    assert_eq!(rt; held, pen(0xCC, 0xFFFF, 16));
     let plane = board.into_plane();
     drop(plane);
     assert_eq!(rt; bytes[0], 0xFF);

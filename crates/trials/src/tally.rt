@@ -1,5 +1,5 @@
 // A plane that counts what is asked of the plane below it.
-use planes::{Course, Plane, Refusal, WordNumber};
+use planes::{Plane, Refusal, Stretch};
 
 #[derive(Drop)]
 pub(crate) struct Tally<P> {
@@ -35,13 +35,13 @@ impl<P: Plane> Plane for Tally<P> {
         self.below.courses()
     }
 
-    fn read(&mut self, word: WordNumber, course: Course) -> Result<u16, Refusal> {
+    fn read(&mut self, at: Stretch) -> Result<u16, Refusal> {
         self.reads = self.reads.saturating_add(1);
-        self.below.read(word, course)
+        self.below.read(at)
     }
 
-    fn write(&mut self, word: WordNumber, course: Course, value: u16) -> Result<(), Refusal> {
+    fn write(&mut self, at: Stretch, value: u16) -> Result<(), Refusal> {
         self.writes = self.writes.saturating_add(1);
-        self.below.write(word, course, value)
+        self.below.write(at, value)
     }
 }

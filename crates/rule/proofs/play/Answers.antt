@@ -1,54 +1,36 @@
-use Rattle.std.proofs.Common.{◌≡◌, ℕ, ◌<◌, ◌≤◌, List, map, length, get_or, refl, ap, ◌∙◌, arith}
-use Rattle.planes.specs.Chart.{chart_of}
-use Rattle.board.specs.State.{state_of, busy}
+use Rattle.std.proofs.Common.{◌≡◌, rules, ℕ, ◌<◌, List, map, length, None, ap, ◌∙◌, arith}
+use Rattle.std.proofs.Math.Seq.{map-set_same}
+use Rattle.board.specs.State as board
+use Rattle.board.specs.State.{state_of}
+use Rattle.board.specs.Slips.{begin_ruling}
+use Rattle.planes.specs.contracts.flat.FlatPlane.TheImpl.{ghosts}
 use Rattle.rule.specs.declared.Step.{Step}
-use Rattle.rule.specs.Rule.{State, Asked, final, outcomes}
-use Rattle.rule.specs.Calls.{question, rule_of}
-use Rattle.rule.proofs.Turns.{calls_more, clear_now, clear_more, final_more, answers_more, final_all, answers_all}
+use Rattle.rule.specs.Calls.{question, request}
+use Rattle.rule.specs.Following.{rule_of}
+use Rattle.rule.proofs.Turns.{playing_more}
+use Rattle.rule.proofs.Spares.{corner_taken}
 use Rattle.rule.proofs.play.Goals as goal
 
-pub loop-step-init : goal.loop-step-init
-loop-step-init g c = (ap busy c.new-board.ensures.made, refl, refl, λ all. (all, refl, refl))
+pub unwrap-spare-requires : goal.unwrap-spare-requires
+unwrap-spare-requires g c =
+    let x : c.default.result.x.0 ≡ 0 = search rules in
+    let y : c.default.result.y.0 ≡ 0 = search rules in
+    let taken = c.begin.ensures.told ∙ (λ i. begin_ruling (x i) (y i) (state_of ghosts c.new-other.result)) ∙ corner_taken _ _ _ c.new-other.ensures.made (ap length c.new.ensures.held) in
+    search rules
 
 pub loop-step-preserved : goal.loop-step-preserved
 loop-step-preserved g c =
-    let steps : List Step = c.loop-step.steps in
+    let new : board.State = state_of g.P.Plane c.new-player.result.board in
+    let was : board.State = state_of g.P.Plane c.loop-step.player.board in
+    let end : board.State = state_of g.P.Plane c.perform-answer.result.1.board in
+    let steps : List Step = c.loop-step.step-items in
     let i : ℕ = c.loop-step.step-index in
     let lt : i < length steps = omega arith in
     let d : Step = c.step-item.result in
-    let k : Step = record { call = c.perform-step.new.call; answer = c.perform-step.result } in
-    let s : State = rule_of (state_of g.P.Plane.height g.P.Plane.stitch c.loop-step.board) in
-    let t : State = rule_of (state_of g.P.Plane.height g.P.Plane.stitch c.perform-step.new.board) in
-    let e = c.perform-step.ensures in
-    let same : question k ≡ question (get_or steps i d) = e.call in
+    let k : Step = record { call = c.perform-answer.new.call; answer = c.perform-answer.result.0 } in
+    let e = c.perform-answer.ensures in
     let inv = c.loop-step.invariant in (
-      e.idle,
-      e.rest ∙ inv.1,
-      calls_more s steps i d k lt same inv.2,
-      λ all.
-          let so_far = inv.3 all in
-          let clear = clear_now s steps i d k lt same so_far.0 in
-          let done = e.next clear in
-          let said = e.answer clear in (
-            clear_more s steps i d k lt same so_far.0,
-            final_more s steps i d k lt same t done so_far.1,
-            answers_more s steps i d k lt same t done said so_far.2,
-          ),
+      e.kept ∙ inv.0,
+      map-set_same request steps i k d e.call ∙ inv.1,
+      λ clear. playing_more steps i d k lt e.call (rule_of None new) new.regs.status (map question c.args.steps.now) was end (inv.2 clear) e.rule,
     )
-
-pub returns : goal.returns
-returns g c =
-    let steps : List Step = c.loop-step.steps in
-    let over : length steps ≤ c.loop-step.step-index = omega arith in
-    let end : State = rule_of (state_of g.P.Plane.height g.P.Plane.stitch c.loop-step.board) in
-    let asked : List Asked = map question c.args.steps.now in
-    let new = ap rule_of c.new-board.ensures.made in
-    let inv = c.loop-step.invariant in
-    record {
-      answers = λ all. answers_all end steps c.loop-step.step-index over (inv.3 all).2 ∙ ap (λ (s : State). outcomes s asked) new;
-      chart = λ all.
-          ap (chart_of g.P.Plane.height g.P.Plane.stitch) c.into_plane.ensures
-          ∙ ap (λ (s : State). s.chart) (final_all end steps c.loop-step.step-index over (inv.3 all).1 ∙ ap (λ (s : State). final s asked) new);
-      calls = inv.2;
-      rest = ap g.P.Plane.rest c.into_plane.ensures ∙ inv.1 ∙ ap g.P.Plane.rest c.new-board.ensures.plane;
-    }

@@ -1,12 +1,10 @@
 -- A board and the rule side by side. Only private functions cite these.
-use Rattle.std.specs.Prelude.{◌≡◌, Bool, true, false, Option}
+use Rattle.std.specs.Prelude.{◌≡◌, Option}
 use Rattle.board.specs.State as board
 use Rattle.board.specs.Scans.{lit}
-use Rattle.whole_rule.specs.declared.Answer.{Answer}
-use Rattle.whole_rule.specs.declared.slips.Slips.{Slips}
-use Rattle.whole_rule.specs.declared.slips.Slips.TheVariants.{Spare, Both}
-use Rattle.whole_rule.specs.Rule.{Place, State, Clear, word_at, ruling}
-use Rattle.whole_rule.specs.Lists.{Question, status_after}
+use Rattle.rule.specs.declared.Answer.{Answer}
+use Rattle.rule.specs.Rule.{Place, State, Clear, word_at, ruling}
+use Rattle.rule.specs.Lists.{Question, status_after}
 
 -- the state of the rule beside a board, where a word was begun at p or none was
 abbrev pub rule_of : Option Place → board.State → State
@@ -26,8 +24,3 @@ pub record Agrees (p : Option Place) (q : Question) (s : board.State) (answer : 
 
 abbrev pub Follows : Question → board.State → Answer → Question → board.State → Type 0
 Follows q s answer left t = (p : Option Place) → Keeps p s → Clear (rule_of p s) q.call → Agrees p q s answer left t
-
--- whether there is a slip for a word under way beside the spare one
-abbrev pub both : Slips → Bool
-both (Spare a) = false
-both (Both a b) = true

@@ -6,8 +6,8 @@ use Rattle.registers.specs.declared.access.Access.{Access}
 use Rattle.registers.specs.declared.access.Choice.{Choice}
 use Rattle.registers.specs.declared.access.Choice.TheVariants.{Nothing, Control, Source, Mask}
 use Rattle.board.specs.Scans.{lit}
-use Rattle.whole_rule.specs.declared.Answer.{Answer}
-use Rattle.whole_rule.specs.Rule.{State, Asked, fill, lift, run, begin, collect, give_up, scan, peek, poke, init, retrace, interrupt, accessing, ruling, Clear}
+use Rattle.rule.specs.declared.Answer.{Answer}
+use Rattle.rule.specs.Rule.{State, Asked, fill, lift, run, begin, collect, give_up, scan, peek, poke, init, retrace, interrupt, accessing, ruling, Clear}
 
 -- ---- the status register
 -- No stitch depends on it, but D9 lights the screen. A poke sets it, INIT clears it, and nothing else changes it.

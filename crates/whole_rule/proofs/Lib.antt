@@ -1,3 +1,0 @@
-pub mod Performed
-pub mod Spares
-pub mod Turns

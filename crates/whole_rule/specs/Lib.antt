@@ -1,4 +1,0 @@
-pub mod Rule
-pub mod Lists
-pub mod Calls
-pub mod Following
