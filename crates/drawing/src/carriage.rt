@@ -58,7 +58,7 @@ impl<'b, P: Plane> Carriage<'b, P> {
         Carriage { board, unit }
     }
 
-    // A write by what it asks for.
+    // A write by what it asks for. An access of any place is an `Access`, as old programs make them; here it has to have an address.
     pub(crate) fn poke(&mut self, access: Access, value: u16)
         requires near { access.place < 1024 }
         ensures step { state_of P.Plane self.new.board.now ≡ poking value access (state_of P.Plane self.old.board.now) }
@@ -86,7 +86,7 @@ impl<'b, P: Plane> Carriage<'b, P> {
         self.poke(by_needle(0, Choice::Mask), brush.mask);
     }
 
-    // Sets the width and the needle of a strip.
+    // Sets the width and the needle of a strip, which is a `Rect` of at most sixteen needles: a type for those would save two clauses.
     pub(crate) fn aim(&mut self, strip: Rect)
         requires narrow { strip.w ≤ 16 }
         ensures aimed { Aimed (covers strip) (state_of P.Plane self.old.board.now) (state_of P.Plane self.new.board.now) }

@@ -34,6 +34,7 @@ pub struct Access {
 }
 
 impl Pair {
+    // Its number, below 4. A method, and no cast at each use, since that is a promise.
     pub fn number(self) -> usize
         ensures told { result ≡ pair_number self }
         ensures small { result < 4 }
@@ -43,7 +44,7 @@ impl Pair {
 }
 
 impl Access {
-    // The access that the low seventeen bits of an address ask for.
+    // The access that the low seventeen bits of an address ask for. Not a `From`, since it drops the others.
     pub fn of(address: u32) -> Access
         ensures { result ≡ access_of address }
     {

@@ -87,6 +87,7 @@ impl Registers {
             Choice::Nothing => {}
             Choice::Control => {
                 let [high, low] = value.to_be_bytes();
+                // By number: on the bus the coordinate says which control register, and any coordinate may.
                 match access.place % 4 {
                     0 => self.function = low,
                     1 => self.width = Width::coded(value),

@@ -4,7 +4,7 @@ ghost use Rattle.std.specs.Prelude.{◌≡◌, ◌%◌};
 use super::Unit;
 
 impl Unit {
-    // The low three bits of a number.
+    // The low three bits of a number. Not a `From`, since it drops the others.
     pub fn new(number: u8) -> Unit
         ensures { result.number ≡ number % 8 }
     {

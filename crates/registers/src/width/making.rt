@@ -5,7 +5,7 @@ ghost use Rattle.registers.specs.Codes.{decoded};
 use super::Width;
 
 impl Width {
-    // The width that a control word asks for: its low four bits, where 0 means 16.
+    // The width that a control word asks for: its low four bits, where 0 means 16. Not a `From`, since it drops the other bits.
     pub fn coded(value: u16) -> Width
         ensures { result.stitches ≡ decoded value }
     {
