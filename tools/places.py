@@ -107,7 +107,7 @@ POINTS = {
         ("bytes of a word by arithmetic", lambda: lines(r"(/|%|\*) 256\b|\b256 \*")),
         ("a smaller number by `if`", lambda: lines(r"if (\w+) < (\w+) \{ .*\} else \{")),
         ("records of zeros written out", lambda: lines(r"(Needle|Course)\(0\),?$|(place|before): 0,$")),
-        ("conversions and printing of this repository's own", lambda: lines(r"^impl.* (From<.*>|TryFrom<.*>|Display|Debug|PartialEq|Ord|Clone) for ")),
+        ("conversions and printing of this repository's own", lambda: lines(r"^impl.*\b(From<.*>|TryFrom<.*>|Display|Debug|PartialEq|Ord|Clone) for ")),
     ],
     5: [("clauses in three or more functions", same_clauses), ("parameters that stand together in three or more functions", together)],
     6: [("slices, arrays and vectors in types and parameters", lambda: lines(r": (&('\w+ )?(mut )?)?\[.*\]|: Vec<"))],
