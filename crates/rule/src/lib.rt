@@ -81,14 +81,14 @@ pub fn play<P: Plane>(plane: P, unit: u8, steps: &mut [Step]) -> P
 {
     let mut bytes = [0u8; 128];
     let mut other = Board::new(Flat::new(&mut bytes), 0);
-    let spare = other.begin(Cursor::default()).unwrap();
-    let mut player = Player::new(plane, unit, spare);
+    let mut spare = other.begin(Cursor::default()).unwrap();
+    let mut player = Player::new(plane, unit);
     for step in steps {
-        let (answer, next) = player.perform(&mut step.call);
+        let (answer, back) = player.perform(&mut step.call, spare);
         step.answer = answer;
-        player = next;
+        spare = back;
     }
-    let (plane, spare) = player.end();
+    let (plane, spare) = player.end(spare);
     other.give_up(spare).unwrap();
     plane
 }

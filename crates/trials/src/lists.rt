@@ -1,9 +1,11 @@
 // A list of calls, one after the other.
 use crate::given::{frame, pen};
+use crate::large::Large;
 use drawing::Brush;
 use jobs::{Fault, Spot};
 use planes::Refusal;
 use planes::two_bed::TwoBed;
+use registers::Cursor;
 use rule::{Answer, Call, Step, play};
 use std::test::Fail;
 
@@ -60,4 +62,28 @@ fn one_after_the_other(rt: HostRuntime) -> Result<(), Fail> {
     assert_eq!(rt; done[4].answer, Answer::Faulty(fault));
     assert_eq!(rt; fault.refusal.number(), 1);
     Ok(())
+}
+
+// A list leaves its board where it is: with a plane that holds a mebibyte, the stack has no room for many of them.
+#[test]
+fn on_a_plane_that_holds_much(rt: HostRuntime) {
+    let at = Cursor::default();
+    let mut steps = [
+        step(Call::Init),
+        step(Call::Begin { at }),
+        step(Call::Retrace),
+        step(Call::Collect),
+        step(Call::GiveUp),
+        step(Call::Begin { at }),
+    ];
+    let mut front = [0xFFu8; 64];
+    let mut back = [0u8; 64];
+    let plane = Large::new(TwoBed::new(&mut front, &mut back));
+    drop(play(plane, 0, &mut steps));
+    assert_eq!(rt; steps[0].answer, Answer::Done);
+    assert_eq!(rt; steps[1].answer, Answer::Done);
+    assert_eq!(rt; steps[2].answer, Answer::Done);
+    assert_eq!(rt; steps[3].answer, Answer::Collected(0xAAAA));
+    assert_eq!(rt; steps[4].answer, Answer::Refused(Refusal::NoWordUnderWay));
+    assert_eq!(rt; steps[5].answer, Answer::Done);
 }

@@ -22,7 +22,7 @@ pub loop-step-preserved : goal.loop-step-preserved
 loop-step-preserved g c =
     let new : board.State = state_of g.P.Plane c.new-player.result.board in
     let was : board.State = state_of g.P.Plane c.loop-step.player.board in
-    let end : board.State = state_of g.P.Plane c.perform-answer.result.1.board in
+    let end : board.State = state_of g.P.Plane c.perform-answer.new.self.board in
     let steps : List Step = c.loop-step.step-items in
     let i : ℕ = c.loop-step.step-index in
     let lt : i < length steps = omega arith in

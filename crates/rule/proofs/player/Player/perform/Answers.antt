@@ -16,7 +16,7 @@ use Rattle.rule.proofs.player.Player.perform.Goals as goal
 
 pub returns-in-Lift-clause-rule : goal.returns-in-Lift-clause-rule
 returns-in-Lift-clause-rule g c =
-    let was : board.State = state_of g.P.Plane c.args.self.board in
+    let was : board.State = state_of g.P.Plane c.args.self.now.board in
     let end : board.State = state_of g.P.Plane c.lift.new.board in
     let b = c.in-Lift.buffer in
     let a : Area = area c.in-Lift.frame in
@@ -39,7 +39,7 @@ returns-in-Lift-clause-rule g c =
 
 pub returns-in-Scan-clause-rule : goal.returns-in-Scan-clause-rule
 returns-in-Scan-clause-rule g c =
-    let was : board.State = state_of g.P.Plane c.args.self.board in
+    let was : board.State = state_of g.P.Plane c.args.self.now.board in
     let end : board.State = state_of g.P.Plane c.scan.new.self in
     let b = c.in-Scan.buffer in
     let y : ℕ = c.in-Scan.course.0 in
@@ -60,12 +60,12 @@ returns-in-Scan-clause-rule g c =
 
 pub invariant_of-self-in-Peek : goal.invariant_of-self-in-Peek
 invariant_of-self-in-Peek g c =
-    let was : board.State = state_of g.P.Plane c.args.self.board in
-    record { tied = c.args.self.tied ∙ sym (ap board.busy c.peek.ensures.step ∙ same_busy was _ (peek_same c.in-Peek.address was)) }
+    let was : board.State = state_of g.P.Plane c.args.self.now.board in
+    record { tied = c.args.self.now.tied ∙ sym (ap board.busy c.peek.ensures.step ∙ same_busy was _ (peek_same c.in-Peek.address was)) }
 
 pub returns-in-Peek-clause-rule : goal.returns-in-Peek-clause-rule
 returns-in-Peek-clause-rule g c =
-    let was : board.State = state_of g.P.Plane c.args.self.board in
+    let was : board.State = state_of g.P.Plane c.args.self.now.board in
     let end : board.State = state_of g.P.Plane c.peek.new.self in
     let a : ℕ = c.in-Peek.address in
     let e = c.peek.ensures in
@@ -80,12 +80,12 @@ returns-in-Peek-clause-rule g c =
 
 pub invariant_of-self-in-Poke : goal.invariant_of-self-in-Poke
 invariant_of-self-in-Poke g c =
-    let was : board.State = state_of g.P.Plane c.args.self.board in
-    record { tied = c.args.self.tied ∙ sym (ap board.busy c.poke.ensures.step ∙ poke_busy c.in-Poke.address c.in-Poke.value was) }
+    let was : board.State = state_of g.P.Plane c.args.self.now.board in
+    record { tied = c.args.self.now.tied ∙ sym (ap board.busy c.poke.ensures.step ∙ poke_busy c.in-Poke.address c.in-Poke.value was) }
 
 pub returns-in-Poke-clause-rule : goal.returns-in-Poke-clause-rule
 returns-in-Poke-clause-rule g c =
-    let was : board.State = state_of g.P.Plane c.args.self.board in
+    let was : board.State = state_of g.P.Plane c.args.self.now.board in
     let a : ℕ = c.in-Poke.address in
     let n : ℕ = c.in-Poke.value in
     let e = c.poke.ensures in
@@ -101,10 +101,10 @@ returns-in-Poke-clause-rule g c =
 
 pub returns-in-Peek-clause-kept : goal.returns-in-Peek-clause-kept
 returns-in-Peek-clause-kept g c =
-    let was : board.State = state_of g.P.Plane c.args.self.board in
+    let was : board.State = state_of g.P.Plane c.args.self.now.board in
     ap (λ (t : board.State). t.kept) c.peek.ensures.step ∙ (peek_same c.in-Peek.address was).kept
 
 pub returns-in-Poke-clause-kept : goal.returns-in-Poke-clause-kept
 returns-in-Poke-clause-kept g c =
-    let was : board.State = state_of g.P.Plane c.args.self.board in
+    let was : board.State = state_of g.P.Plane c.args.self.now.board in
     ap (λ (t : board.State). t.kept) c.poke.ensures.step ∙ poke_kept c.in-Poke.address c.in-Poke.value was
