@@ -1,6 +1,6 @@
 -- One access of a drawing, and what it leaves.
 -- Assumes nothing.
-use Rattle.std.proofs.Common.{◌≡◌, ℕ, ◌<◌, ◌≤◌, Bool, cond, is_some, Ok, Err, Option, Result, refl, ap, ◌∙◌, rules, arith}
+use Rattle.std.proofs.Common.{◌≡◌, ℕ, ◌<◌, ◌≤◌, Bool, false, cond, is_some, Ok, Err, Option, Result, refl, ap, ◌∙◌, rules, arith}
 use Rattle.std.proofs.lemmas.Bool.Decides.{nat_tests}
 use Rattle.planes.specs.Answer.{instead}
 use Rattle.planes.specs.declared.refusal.Refusal.{Refusal}
@@ -11,7 +11,7 @@ use Rattle.registers.specs.declared.access.Choice.TheVariants.{Nothing, Control,
 use Rattle.registers.specs.Codes.{decoded, pair_number}
 use Rattle.registers.specs.State.{Regs}
 use Rattle.registers.specs.Accesses.{admitted, enter, load, pointed, Asks}
-use Rattle.board.specs.State.{State}
+use Rattle.board.specs.State.{State, busy}
 use Rattle.board.specs.Steps.{after, poking, poked, loading, peeking, peeked, stitches_at}
 use Rattle.drawing.specs.Figures.{Area}
 use Rattle.drawing.specs.Fills.{fill_ruling}
@@ -28,19 +28,30 @@ pub spent_more : (r q p : State) → Spent r q → Spent q p → Spent r p
 spent_more r q p a b = search rules
 
 -- ---- one access
--- a board takes an access whose address asks it of the board's unit
-module _ (unit a : ℕ) (k : Access) (s : State) (asks : Asks unit k a) (ready : Ready unit s) where
-  taken : admitted a s.regs ≡ Ok k
-  taken = asks s.regs ready.unit_is ∙ ap (λ (b : Bool). cond b (Err WordUnderWay) (Ok k)) ready.idle
+-- a board with no word under way takes an access that it refuses for no other reason
+module _ (a : ℕ) (k : Access) (s : State) (is : admitted a s.regs ≡ cond (busy s) (Err WordUnderWay) (Ok k)) (idle : busy s ≡ false) where
+  admits : admitted a s.regs ≡ Ok k
+  admits = is ∙ ap (λ (b : Bool). cond b (Err WordUnderWay) (Ok k)) idle
 
+  pub ask_told : {V : Type 0} (v : V) → ◌≡◌ {A = Result V Refusal} (instead v (admitted a s.regs)) (Ok v)
+  ask_told v = ap (instead v) admits
+
+  pub ask_step : (n : ℕ) → poked a n s ≡ poking n k s
+  ask_step n = ap (λ (q : Result Access Refusal). after (poking n) q s) admits
+
+  pub look_step : peeked a s ≡ peeking k s
+  look_step = ap (λ (q : Result Access Refusal). after peeking q s) admits
+
+-- such an access is one whose address asks it of the board's unit
+module _ (unit a : ℕ) (k : Access) (s : State) (asks : Asks unit k a) (ready : Ready unit s) where
   pub taken_told : {V : Type 0} (v : V) → ◌≡◌ {A = Result V Refusal} (instead v (admitted a s.regs)) (Ok v)
-  taken_told v = ap (instead v) taken
+  taken_told v = ask_told a k s (asks s.regs ready.unit_is) ready.idle v
 
   pub poked_is : (n : ℕ) → poked a n s ≡ poking n k s
-  poked_is n = ap (λ (q : Result Access Refusal). after (poking n) q s) taken
+  poked_is n = ask_step a k s (asks s.regs ready.unit_is) ready.idle n
 
   pub peeked_is : peeked a s ≡ peeking k s
-  peeked_is = ap (λ (q : Result Access Refusal). after peeking q s) taken
+  peeked_is = look_step a k s (asks s.regs ready.unit_is) ready.idle
 
 -- a write sets neither the unit nor the word under way
 pub enter_unit : (k : Choice) (v n : ℕ) (r : Regs) → ((enter k v n r).unit ≡ r.unit) × ((enter k v n r).ahead ≡ r.ahead)
