@@ -1,6 +1,6 @@
 -- What the rule says where no word is under way, of the calls that begin none and have no buffer: answers and charts as a rule without a place has them, over every list.
--- Assumes nothing. No other proof cites it.
-use Rattle.std.proofs.Common.{◌≡◌, ℕ, ◌/◌, ◌%◌, false, eqb, List, [], ◌∷◌, None, Ok, Err, Result, refl, ap, ◌∙◌}
+-- Last, what the clauses of `play` say of a list of these calls. Assumes nothing. No other proof cites it.
+use Rattle.std.proofs.Common.{◌≡◌, ℕ, ◌/◌, ◌%◌, false, eqb, List, [], ◌∷◌, map, None, Ok, Err, Result, refl, sym, ap, ap₂, ◌∙◌, subst}
 use Rattle.planes.specs.Chart.{Chart}
 use Rattle.planes.specs.declared.refusal.Refusal.{Refusal}
 use Rattle.registers.specs.declared.access.Access.{Access}
@@ -11,8 +11,12 @@ use Rattle.drawing.specs.Fills.{filled}
 use Rattle.jobs.specs.Runs.{job_answer, ran_to}
 use Rattle.rule.specs.declared.Answer.{Answer}
 use Rattle.rule.specs.declared.Answer.TheVariants.{Done}
+use Rattle.rule.specs.declared.Call.{Call}
+use Rattle.rule.specs.declared.Call.TheVariants.{Fill, Lift, Run, Begin, Collect, GiveUp, Scan, Peek, Poke, Init, Retrace, Interrupt}
+use Rattle.rule.specs.declared.Step.{Step}
 use Rattle.rule.specs.Rule.{State, Asked, Outcome, Clear, fill, lift, run, begin, collect, give_up, scan, peek, poke, init, retrace, interrupt, settled, reported, ruling}
-use Rattle.rule.specs.Lists.{Question, Told, AllClear, status_after, final, outcomes}
+use Rattle.rule.specs.Lists.{Question, Told, AllClear, at_first, status_after, final, outcomes}
+use Rattle.rule.specs.Calls.{unbuffered, asked, question, request, told}
 
 -- these calls
 abbrev pub Plain : Asked → Type 0
@@ -119,3 +123,57 @@ clear s interrupt p q = tt
 pub all_clear : (s : State) (qs : List Question) → AllPlain qs → AllQuiet qs → AllClear s qs
 all_clear s [] p q = tt
 all_clear s (x ∷ more) p q = (clear s x.call p.0 q.0, all_clear (ruling s x.call).after more p.1 q.1)
+
+-- ---- what `play` says of a list of these calls
+-- each of them is all its arguments
+unbuffered_is : (k : Call) → Plain (asked k).call → asked k ≡ unbuffered (asked k).call
+unbuffered_is (Fill f b) p = refl
+unbuffered_is (Lift f buffer) p = absurd p
+unbuffered_is (Run job w) p = refl
+unbuffered_is (Begin at) p = absurd p
+unbuffered_is Collect p = absurd p
+unbuffered_is GiveUp p = absurd p
+unbuffered_is (Scan y buffer) p = absurd p
+unbuffered_is (Peek a) p = refl
+unbuffered_is (Poke a n) p = refl
+unbuffered_is Init p = refl
+unbuffered_is Retrace p = refl
+unbuffered_is Interrupt p = refl
+
+abbrev AllPlainCalls : List Asked → Type 0
+AllPlainCalls [] = Unit {0}
+AllPlainCalls (a ∷ more) = Plain a × AllPlainCalls more
+
+plain_calls : (steps : List Step) → AllPlain (map question steps) → AllPlainCalls (map request steps)
+plain_calls [] p = tt
+plain_calls (s ∷ more) p = (p.0, plain_calls more p.1)
+
+all_arguments : (steps : List Step) → AllPlainCalls (map request steps) → map question steps ≡ map unbuffered (map request steps)
+all_arguments [] p = refl
+all_arguments (s ∷ more) p = ap₂ (λ (q : Question) (qs : List Question). q ∷ qs) (unbuffered_is s.call p.0) (all_arguments more p.1)
+
+-- the steps before and after, the unit's number and the chart below, and the chart then: each premise that ends in `→` is a clause of `play`
+module _ (before after : List Step) (n : ℕ) (c : Chart) (plain : AllPlain (map question before)) where
+  -- the clause `answers`
+  pub smaller_answers : AllQuiet (map question before)
+      → (AllClear (at_first n c) (map question before) → map told after ≡ outcomes (at_first n c) 0 (map question before))
+      → map told after ≡ plain_told c (n % 8) (map question before)
+  smaller_answers quiet answers =
+      answers (all_clear (at_first n c) (map question before) plain quiet)
+      ∙ tolds c (n % 8) 0 (map question before) plain
+
+  -- the clause `chart`
+  pub smaller_chart : (d : Chart) → AllQuiet (map question before)
+      → (AllClear (at_first n c) (map question before) → d ≡ (final (at_first n c) (map question before)).chart)
+      → d ≡ plain_final c (map question before)
+  smaller_chart d quiet chart =
+      chart (all_clear (at_first n c) (map question before) plain quiet)
+      ∙ ap (λ (s : State). s.chart) (finals c (n % 8) (map question before) plain)
+
+  -- the clause `calls`: each call with all its arguments stays
+  pub smaller_calls : map request after ≡ map request before → map question after ≡ map question before
+  smaller_calls calls =
+      let were = plain_calls before plain in
+      all_arguments after (subst AllPlainCalls (sym calls) were)
+      ∙ ap (map unbuffered) calls
+      ∙ sym (all_arguments before were)
